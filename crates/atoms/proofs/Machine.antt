@@ -1,0 +1,74 @@
+-- The machine's words of 64 bits against the definitions: what the proofs of the functions cite.
+use mathlib.Core.Path.{_≡_, refl, ap, _∙_}
+use mathlib.Core.List.{List}
+use Prim.Native.Nat.{ℕ, _-_, _*_, _^_, _%_, _≤_, _<_, min}
+use native.Mathlib.Nat.{one-mul}
+use native.Mathlib.Omega.{arith}
+use borrow.Author.Tests.{lt-ltb, le-ltb}
+use lib.Count.{leadingZeros, leading-top}
+use lib.ListN.{length, set, length-set}
+use lib.Pow.{shl-exact}
+use lib.Seq.{getD-set-same, getD-set-other}
+use Rattle.atoms.specs.Sets.{limit}
+use Rattle.atoms.specs.Words.{singleOrEmpty, below, HighestOrEmpty, rowOf, rowCount, RowSet}
+
+-- ⊥ is atom number 255, past every atom.
+pub limit-small : limit ≤ 255
+unfolding limit
+limit-small = omega arith
+
+pub one-in-limit : 1 ≤ limit
+unfolding limit
+one-in-limit = omega arith
+
+-- `1 << i`.
+pub one-shl : (i : ℕ) → i < 64 → 1 * 2 ^ i % 2 ^ 64 ≡ 2 ^ i
+one-shl i h = shl-exact 1 i 64 (omega arith) (omega arith) ∙ one-mul (2 ^ i)
+
+pub single-word : (i : ℕ) → i < 64 → 1 * 2 ^ i % 2 ^ 64 ≡ singleOrEmpty i
+unfolding singleOrEmpty limit
+single-word i h = rw (lt-ltb i 64 h) (one-shl i h)
+
+pub single-past : (i : ℕ) → 64 ≤ i → 0 ≡ singleOrEmpty i
+unfolding singleOrEmpty limit
+single-past i h = rw (le-ltb i 64 h)
+
+pub below-word : (n : ℕ) → n < 64 → 1 * 2 ^ n % 2 ^ 64 - 1 ≡ below n
+unfolding below limit
+below-word n h = ap (λ (x : ℕ). x - 1) (one-shl n h ∙ ap (λ (k : ℕ). 2 ^ k) (omega arith))
+
+pub below-past : (n : ℕ) → 64 ≤ n → 2 ^ 64 - 1 ≡ below n
+unfolding below limit
+below-past n h = let e : 64 ≡ min n 64 = omega arith in ap (λ (k : ℕ). 2 ^ k - 1) e
+
+-- The count of leading zeros of a word finds its highest atom.
+pub leading-small : (a : ℕ) → 0 < a → a < 2 ^ 64 → leadingZeros 64 a ≤ 63
+leading-small a p h = let t = leading-top 64 a p h in omega arith
+
+pub highest-word : (a : ℕ) → 0 < a → a < 2 ^ 64 → HighestOrEmpty a (1 * 2 ^ (63 - leadingZeros 64 a) % 2 ^ 64)
+highest-word a p h =
+    let t = leading-top 64 a p h in
+    let here : 63 - leadingZeros 64 a ≡ t .0 = omega (arith, t .1) in
+    record {
+      empty = λ e. absurd (omega arith);
+      highest = λ _.
+          record {
+            atom = t .0;
+            alone = one-shl (63 - leadingZeros 64 a) (omega arith) ∙ ap (λ (j : ℕ). 2 ^ j) here;
+            member = t .2;
+            above = t .3;
+          };
+    }
+
+pub highest-none : (a : ℕ) → a ≡ 0 → HighestOrEmpty a a
+highest-none a e = record { empty = λ _. e; highest = λ h. absurd (omega arith) }
+
+-- A store in a table of words, and none past its end.
+pub set-row : (t : List ℕ) (i x : ℕ) → i < length t → RowSet t i x (set t i x)
+unfolding rowOf rowCount
+set-row t i x h =
+    record { size = length-set t i x; written = λ _. getD-set-same t i x 0 h; others = λ j d. getD-set-other t i j x 0 d }
+
+pub keep-row : (t : List ℕ) (i x : ℕ) → length t ≤ i → RowSet t i x t
+unfolding rowCount
+keep-row t i x h = record { size = refl; written = λ k. absurd (omega arith); others = λ j d. refl }

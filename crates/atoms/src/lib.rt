@@ -1,0 +1,131 @@
+// Sets of atoms. Atom i counts 2^i; every function is total, for any number and any set.
+ghost use mathlib.Core.Path.{_≡_};
+ghost use Prim.Native.Nat.{_^_, _<_};
+ghost use lib.Dec.{eqb};
+ghost use Rattle.atoms.specs.Sets.{limit, has, union, minus, within, meets};
+ghost use Rattle.atoms.specs.Words.{num, singleOrEmpty, below, HighestOrEmpty, rowOf, RowSet};
+
+pub struct AtomSet {
+    pub bits: u64,
+}
+
+impl AtomSet {
+    pub const EMPTY: AtomSet = AtomSet { bits: 0 };
+
+    // A lemma for callers, with nothing to run: every set is below 2^limit.
+    pub fn bounded(self)
+        ensures { λ _. ⌜ num self < 2 ^ limit ⌝ }
+    {}
+
+    // The set of atom i alone; empty where i is no atom, as for ⊥.
+    pub fn single(i: u8) -> Self
+        ensures { λ r. ⌜ num r ≡ singleOrEmpty i ⌝ }
+    {
+        if i < 64 {
+            AtomSet { bits: 1 << i }
+        } else {
+            AtomSet::EMPTY
+        }
+    }
+
+    // All atoms below n.
+    pub fn below(n: u8) -> Self
+        ensures { λ r. ⌜ num r ≡ below n ⌝ }
+    {
+        if n < 64 {
+            AtomSet { bits: (1 << n) - 1 }
+        } else {
+            AtomSet {
+                bits: 0xffff_ffff_ffff_ffff,
+            }
+        }
+    }
+
+    // Union.
+    pub fn join(self, other: AtomSet) -> Self
+        ensures { λ r. ⌜ num r ≡ union (num self) (num other) ⌝ }
+    {
+        AtomSet {
+            bits: self.bits | other.bits,
+        }
+    }
+
+    // The atoms of self that other lacks.
+    pub fn without(self, other: AtomSet) -> Self
+        ensures { λ r. ⌜ num r ≡ minus (num self) (num other) ⌝ }
+    {
+        AtomSet {
+            bits: self.bits & !other.bits,
+        }
+    }
+
+    // Inclusion: each atom of self is one of other.
+    pub fn within(self, other: AtomSet) -> bool
+        ensures { λ r. ⌜ r ≡ within (num self) (num other) ⌝ }
+    {
+        self.bits & other.bits == self.bits
+    }
+
+    // Some atom is in both.
+    pub fn meets(self, other: AtomSet) -> bool
+        ensures { λ r. ⌜ r ≡ meets (num self) (num other) ⌝ }
+    {
+        self.bits & other.bits != 0
+    }
+
+    pub fn is_empty(self) -> bool
+        ensures { λ r. ⌜ r ≡ eqb (num self) 0 ⌝ }
+    {
+        self.bits == 0
+    }
+
+    // The same atoms.
+    pub fn same(self, other: AtomSet) -> bool
+        ensures { λ r. ⌜ r ≡ eqb (num self) (num other) ⌝ }
+    {
+        self.bits == other.bits
+    }
+
+    // Atom i is in self.
+    pub fn has(self, i: u8) -> bool
+        ensures { λ r. ⌜ r ≡ has (num self) i ⌝ }
+    {
+        if i < 64 {
+            (self.bits >> i) % 2 == 1
+        } else {
+            false
+        }
+    }
+
+    // The set of the highest atom alone; of the empty set, the empty set.
+    pub fn highest(self) -> Self
+        ensures { λ r. ⌜ HighestOrEmpty (num self) (num r) ⌝ }
+    {
+        if self.bits == 0 {
+            return self;
+        }
+        AtomSet {
+            bits: 1 << (63 - u64::leading_zeros(self.bits)),
+        }
+    }
+}
+
+// Row i of a table of sets; past its end, the empty set.
+pub fn row(table: &[u64], i: usize) -> AtomSet
+    ensures { λ r. ⌜ num r ≡ rowOf (now (table .entry)) i ⌝ }
+{
+    if i < table.len() {
+        AtomSet { bits: table[i] }
+    } else {
+        AtomSet::EMPTY
+    }
+}
+
+// Writes row i of a table of sets; past its end, nothing.
+pub fn set_row(table: &mut [u64], i: usize, s: AtomSet)
+    ensures { λ _. ⌜ RowSet (now (table .entry)) i (num s) (now (table .exit)) ⌝ }
+{
+    if i < table.len() {
+        table[i] = s.bits;
+    }
+}

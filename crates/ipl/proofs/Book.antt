@@ -1,0 +1,291 @@
+-- Theorem 6: demand 3's whole claim about the book, for every n and every list of calls, refused calls included.
+use mathlib.Core.Bool.{Bool, true, false, not, cond, _&&_, _||_, true≢false}
+use mathlib.Core.List.{List, [], _∷_, _++_, append-nil}
+use mathlib.Core.Logic.{_⊎_, _↔_, inl, inr}
+use mathlib.Core.Path.{_≡_, refl, sym, _∙_, subst}
+use Prim.Native.Nat.{ℕ, _≤_, _<_}
+use native.Mathlib.Nat.{le-trans}
+use native.Mathlib.Omega.{arith}
+use lib.Dec.{T, eqb, leb, leb→le, eqb-refl}
+use lib.ListN.{length, length-append}
+use borrow.Author.Tests.{leb-false, eqb-true, ne-eqb}
+use Rattle.atoms.specs.Sets.{limit}
+use Rattle.atoms.proofs.Machine.{limit-small, one-in-limit}
+use Rattle.atoms.proofs.Truth.{T-left, T-right, T-and, T-or, T-inl, T-inr, true-T, false-T, by-cond}
+use Rattle.ipl.specs.Lists.{any, All}
+use Rattle.ipl.specs.Clause.{bot, one, Flat, Implication, closing, closings, sameFlat, closed}
+use Rattle.ipl.specs.Range.{flatTable, implicationTable, stepTable, atomOrBot, setInRange, flatInRange, implicationInRange}
+use Rattle.ipl.specs.Search.{Step, State, Outcome, valid, refuted, refused, unfinished, NeedsNoMore, start, search}
+use Rattle.ipl.specs.Kripke.{Model, shown}
+use Rattle.ipl.specs.Claim.{Countermodel, StepsRight}
+use Rattle.ipl.specs.Book.{Book, Call, addFlat, addImplication, question, countInRange, opened, flatsFull, flatRefusal, implicationRefusal, answer, refusal, stepsAfter, taken, next}
+use Rattle.ipl.specs.Demand.{isValid, isRefuted, isVerdict, worldsOf, Settled, WellFormed, Answered, Claims}
+use Rattle.ipl.proofs.Lists.{All-map, All-append, any-left, any-last}
+use Rattle.ipl.proofs.Range.{AtomOrBot, ImplicationBelow, atom-or-bot, flat-below, implication-below, one-in-range}
+use Rattle.ipl.proofs.PropositionTwo.{refuting-countermodel}
+use Rattle.ipl.proofs.Steps.{steps-more, step-numbers, clauses-same, derivation-sound}
+use Rattle.ipl.proofs.Witness.{Witnessed, witnessed-none, witnessed-same}
+use Rattle.ipl.proofs.Search.{OutcomeRight, search-right}
+use Rattle.ipl.proofs.Limits.{Fits, search-fits, verdict-iff-needs-no-more, eight-atoms}
+
+-- What every book reached holds, and the witnesses of its steps.
+pub record Reached (k : Book) : Type 0 where
+  pub well-formed : WellFormed k
+  pub witnessed : Witnessed (k .n) (k .implications) (k .steps)
+
+-- ---- an opening
+
+pub opened-reached : (n : ℕ) → Reached (opened n)
+unfolding opened
+opened-reached n = record { well-formed = fresh (cond (countInRange n) n 1) (count (countInRange n) refl); witnessed = witnessed-none _ [] }
+  where
+    count : (b : Bool) → countInRange n ≡ b → (1 ≤ cond b n 1) × (cond b n 1 ≤ limit)
+    count true e = unfold countInRange in (leb→le 1 n (T-left (leb 1 n) (leb n limit) (true-T e)), leb→le n limit (T-right (leb 1 n) (leb n limit) (true-T e)))
+    count false e = (omega arith, one-in-limit)
+
+    fresh : (n : ℕ) → (1 ≤ n) × (n ≤ limit) → WellFormed (record { n = n; flats = []; implications = []; steps = [] })
+    fresh n h = record {
+      some = h .0;
+      few = h .1;
+      flat-count = omega arith;
+      implication-count = omega arith;
+      step-count = omega arith;
+      flats = tt;
+      implications = tt;
+      closings = tt;
+      steps = tt;
+    }
+
+-- ---- a call that is not refused meets none of its refusals
+
+flat-unrefused : (k : Book) (f : Flat) → flatRefusal k f ≡ 0 → T (flatInRange (k .n) f) × (length (k .flats) < flatTable)
+unfolding flatRefusal flatsFull
+flat-unrefused k f = go (flatInRange (k .n) f) (leb flatTable (length (k .flats))) refl
+  where
+    go : (a b : Bool) → leb flatTable (length (k .flats)) ≡ b → _≡_ {A = ℕ} (cond (not a) 6 (cond b 7 0)) 0 → T a × (length (k .flats) < flatTable)
+    go true true e r = absurd (omega arith)
+    go true false e r = (tt, leb-false flatTable (length (k .flats)) e)
+    go false b e r = absurd (omega arith)
+
+record ImplicationUnrefused (k : Book) (i : Implication) : Type 0 where
+  in-range : T (implicationInRange (k .n) i)
+  row : (eqb (i .b) bot ≡ true) ⊎ (length (k .flats) < flatTable)
+  room : length (k .implications) < implicationTable
+
+implication-unrefused : (k : Book) (i : Implication) → implicationRefusal k i ≡ 0 → ImplicationUnrefused k i
+unfolding implicationRefusal flatsFull
+implication-unrefused k i =
+    go (implicationInRange (k .n) i) refl (eqb (i .b) bot) refl (leb flatTable (length (k .flats))) refl (leb implicationTable (length (k .implications))) refl
+  where
+    go : (a : Bool) → implicationInRange (k .n) i ≡ a → (b : Bool) → eqb (i .b) bot ≡ b → (c : Bool) → leb flatTable (length (k .flats)) ≡ c
+        → (d : Bool) → leb implicationTable (length (k .implications)) ≡ d
+        → _≡_ {A = ℕ} (cond (not a) 6 (cond (not b && c) 7 (cond d 8 0))) 0 → ImplicationUnrefused k i
+    go true ea true eb c ec false ed r = record { in-range = true-T ea; row = inl eb; room = leb-false implicationTable (length (k .implications)) ed }
+    go true ea true eb c ec true ed r = absurd (omega arith)
+    go true ea false eb false ec false ed r =
+        record { in-range = true-T ea; row = inr (leb-false flatTable (length (k .flats)) ec); room = leb-false implicationTable (length (k .implications)) ed }
+    go true ea false eb false ec true ed r = absurd (omega arith)
+    go true ea false eb true ec d ed r = absurd (omega arith)
+    go false ea b eb c ec d ed r = absurd (omega arith)
+
+-- ---- closing clauses
+
+closed-more : (F G : List Flat) (i : Implication) → T (closed F i) → T (closed (F ++ G) i)
+unfolding closed
+closed-more F G i t = elim (T-or (eqb (i .b) bot) (any (sameFlat (closing i)) F) t) [
+  | inl h ↦ T-inl (eqb (i .b) bot) (any (sameFlat (closing i)) (F ++ G)) h
+  | inr h ↦ T-inr (eqb (i .b) bot) (any (sameFlat (closing i)) (F ++ G)) (any-left (sameFlat (closing i)) F G h)
+]
+
+closed-new : (F : List Flat) (i : Implication) → T (closed (F ++ closings i) i)
+unfolding closed closings sameFlat
+closed-new F i = go (eqb (i .b) bot)
+  where
+    go : (b : Bool) → T (b || any (sameFlat (closing i)) (F ++ cond b [] (closing i ∷ [])))
+    go true = tt
+    go false =
+        any-last (sameFlat (closing i)) F (closing i)
+        (T-and (eqb (closing i .left) (closing i .left)) (eqb (closing i .right) (closing i .right)) (eqb-refl (closing i .left)) (eqb-refl (closing i .right)))
+
+closings-in-range : (n : ℕ) (i : Implication) → ImplicationBelow n i → All (λ f. T (flatInRange n f)) (closings i)
+unfolding closings closing flatInRange
+closings-in-range n i o =
+    by-cond (All (λ f. T (flatInRange n f))) (eqb (i .b) bot) [] (closing i ∷ []) (λ _. tt)
+    (λ _. (T-and (setInRange n (one (i .b))) (setInRange n (one (i .c))) (one-in-range n (i .b) (o .b)) (one-in-range n (i .c) (o .c)), tt))
+
+closings-count : (k : Book) (i : Implication) → WellFormed k → ImplicationUnrefused k i → length (k .flats ++ closings i) ≤ flatTable
+unfolding closings
+closings-count k i h u = go (eqb (i .b) bot) refl (u .row)
+  where
+    go : (b : Bool) → eqb (i .b) bot ≡ b → (eqb (i .b) bot ≡ true) ⊎ (length (k .flats) < flatTable) → length (k .flats ++ cond b [] (closing i ∷ [])) ≤ flatTable
+    go true e r = rw (append-nil (k .flats)) (h .flat-count)
+    go false e (inl t) = absurd (true≢false (sym t ∙ e))
+    go false e (inr l) = omega (arith, length-append (k .flats) (closing i ∷ []))
+
+-- ---- each call that is taken keeps a reached book reached
+
+flat-reached : (k : Book) (f : Flat) → Reached k → flatRefusal k f ≡ 0 → Reached (taken k (addFlat f))
+unfolding taken
+flat-reached k f r e =
+    let h = r .well-formed in
+    let u = flat-unrefused k f e in
+    record {
+      well-formed = record {
+        some = h .some;
+        few = h .few;
+        flat-count = omega (arith, u .1, length-append (k .flats) (f ∷ []));
+        implication-count = h .implication-count;
+        step-count = h .step-count;
+        flats = All-append (λ f. T (flatInRange (k .n) f)) (k .flats) (f ∷ []) (h .flats) (u .0, tt);
+        implications = h .implications;
+        closings = All-map (k .implications) (λ i c. closed-more (k .flats) (f ∷ []) i c) (h .closings);
+        steps = subst (λ (X : List Implication). StepsRight (k .n) (k .flats ++ (f ∷ [])) X [] (k .steps)) (append-nil (k .implications))
+            (steps-more (k .n) (k .flats) (k .implications) (f ∷ []) [] [] (k .steps) tt (h .steps));
+      };
+      witnessed = r .witnessed;
+    }
+
+implication-reached : (k : Book) (i : Implication) → Reached k → implicationRefusal k i ≡ 0 → Reached (taken k (addImplication i))
+unfolding taken
+implication-reached k i r e =
+    let h = r .well-formed in
+    let u = implication-unrefused k i e in
+    record {
+      well-formed = record {
+        some = h .some;
+        few = h .few;
+        flat-count = closings-count k i h u;
+        implication-count = omega (arith, u .room, length-append (k .implications) (i ∷ []));
+        step-count = h .step-count;
+        flats = All-append (λ f. T (flatInRange (k .n) f)) (k .flats) (closings i) (h .flats) (closings-in-range (k .n) i (implication-below (k .n) i (u .in-range)));
+        implications = All-append (λ i. T (implicationInRange (k .n) i)) (k .implications) (i ∷ []) (h .implications) (u .in-range, tt);
+        closings = All-append (λ j. T (closed (k .flats ++ closings i) j)) (k .implications) (i ∷ [])
+            (All-map (k .implications) (λ j c. closed-more (k .flats) (closings i) j c) (h .closings)) (closed-new (k .flats) i, tt);
+        steps = steps-more (k .n) (k .flats) (k .implications) (closings i) (i ∷ []) [] (k .steps) tt (h .steps);
+      };
+      witnessed = witnessed-same (k .n) (k .implications) (k .implications ++ (i ∷ [])) (k .steps)
+          (clauses-same (k .n) (k .flats) (k .implications) (closings i) (i ∷ []) (k .steps) (step-numbers (k .n) (k .flats) (k .implications) [] (k .steps) (h .steps))) (r .witnessed);
+    }
+
+module _ (k : Book) (g : ℕ) (r : Reached k) where
+  implications-below : All (ImplicationBelow (k .n)) (k .implications)
+  implications-below = All-map (k .implications) (implication-below (k .n)) (r .well-formed .implications)
+
+  abbrev outcome : Outcome
+  outcome = search (k .n) (k .flats) (k .implications) g (k .steps)
+
+  outcome-right : OutcomeRight (k .n) (k .flats) (k .implications) g (k .steps) outcome
+  outcome-right = search-right (k .n) (k .flats) (k .implications) g (k .steps) implications-below (r .well-formed .steps) (r .witnessed)
+
+  with-steps : (S : List Step) → length S ≤ stepTable → StepsRight (k .n) (k .flats) (k .implications) [] S → Witnessed (k .n) (k .implications) S
+      → Reached (record { n = k .n; flats = k .flats; implications = k .implications; steps = S })
+  with-steps S f s v =
+      let h = r .well-formed in
+      record {
+        well-formed = record {
+          some = h .some;
+          few = h .few;
+          flat-count = h .flat-count;
+          implication-count = h .implication-count;
+          step-count = f;
+          flats = h .flats;
+          implications = h .implications;
+          closings = h .closings;
+          steps = s;
+        };
+        witnessed = v;
+      }
+
+  steps-reached : (o : Outcome) → OutcomeRight (k .n) (k .flats) (k .implications) g (k .steps) o → Fits o
+      → Reached (record { n = k .n; flats = k .flats; implications = k .implications; steps = stepsAfter (k .steps) o })
+  unfolding stepsAfter
+  steps-reached (valid s) h f = with-steps (s .steps) f (h .grown .steps) (h .grown .witnessed)
+  steps-reached (refuted s) h f = with-steps (s .steps) f (h .grown .steps) (h .grown .witnessed)
+  steps-reached (refused number) h f = r
+  steps-reached unfinished h f = r
+
+  question-reached : Reached (taken k (question g))
+  unfolding taken answer
+  question-reached =
+      by-cond (λ o. Reached (record { n = k .n; flats = k .flats; implications = k .implications; steps = stepsAfter (k .steps) o }))
+      (atomOrBot (k .n) g) outcome (refused 6)
+      (λ _. steps-reached outcome outcome-right (search-fits (k .n) (k .flats) (k .implications) g (k .steps) (r .well-formed .step-count)))
+      (λ _. steps-reached (refused 6) tt tt)
+
+  -- ---- the answer to a question whose goal is in range
+  module _ (in-range : AtomOrBot (k .n) g) where
+    few : k .n ≤ bot
+    few = le-trans (r .well-formed .few) limit-small
+
+    no-countermodel : (s : State) → OutcomeRight (k .n) (k .flats) (k .implications) g (k .steps) (valid s) → (m : Model) → Countermodel (k .flats) (k .implications) g m → ⊥
+    no-countermodel s h =
+        derivation-sound (k .n) (k .flats) (k .implications) (All-map (k .flats) (flat-below (k .n)) (r .well-formed .flats)) implications-below few g in-range (s .steps) (h .derivation)
+
+    worlds-countermodel : (s : State) → OutcomeRight (k .n) (k .flats) (k .implications) g (k .steps) (refuted s) → Countermodel (k .flats) (k .implications) g (shown (s .worlds))
+    worlds-countermodel s h =
+        refuting-countermodel (k .n) few (s .worlds) (h .below) (k .flats) (k .implications) g (h .right .refuting) (r .well-formed .closings)
+
+    eight : k .n ≤ 8 → NeedsNoMore (k .n) (k .flats) (k .implications) g (start (k .steps))
+    eight l = eight-atoms (k .n) (k .flats) (k .implications) g implications-below l (k .steps) (r .well-formed .steps) (r .witnessed)
+
+    -- Whichever way the search ends, given that it ends in a verdict exactly if it needs no more.
+    settled : (o : Outcome) → OutcomeRight (k .n) (k .flats) (k .implications) g (k .steps) o
+        → T (isVerdict o) ↔ NeedsNoMore (k .n) (k .flats) (k .implications) g (start (k .steps)) → Settled k g o
+    unfolding isValid isRefuted worldsOf
+    settled (valid s) h v = record {
+      valid-iff = λ _. (λ _. no-countermodel s h, λ _. tt);
+      refuted-iff = λ _. (λ t. absurd t, λ c. no-countermodel s h (c .0) (c .1));
+      shown-one = λ t. absurd t;
+      verdict-iff = v;
+      eight = eight;
+    }
+    settled (refuted s) h v = record {
+      valid-iff = λ _. (λ t. absurd t, λ f. f (shown (s .worlds)) (worlds-countermodel s h));
+      refuted-iff = λ _. (λ _. (shown (s .worlds), worlds-countermodel s h), λ _. tt);
+      shown-one = λ _. worlds-countermodel s h;
+      verdict-iff = v;
+      eight = eight;
+    }
+    settled (refused number) h v =
+        record { valid-iff = λ t. absurd t; refuted-iff = λ t. absurd t; shown-one = λ t. absurd t; verdict-iff = v; eight = eight }
+    settled unfinished h v =
+        record { valid-iff = λ t. absurd t; refuted-iff = λ t. absurd t; shown-one = λ t. absurd t; verdict-iff = v; eight = eight }
+
+  question-settled : T (atomOrBot (k .n) g) → Settled k g (answer k g)
+  unfolding answer
+  question-settled t =
+      by-cond (Settled k g) (atomOrBot (k .n) g) outcome (refused 6)
+      (λ _. settled (atom-or-bot (k .n) g t) outcome outcome-right (verdict-iff-needs-no-more (k .n) (k .flats) (k .implications) g (k .steps) (r .well-formed .step-count)))
+      (λ e. absurd (false-T e t))
+
+-- ---- every call, and every list of calls
+
+taken-reached : (k : Book) (c : Call) → Reached k → refusal k c ≡ 0 → Reached (taken k c)
+unfolding refusal
+taken-reached k (addFlat f) r e = flat-reached k f r e
+taken-reached k (addImplication i) r e = implication-reached k i r e
+taken-reached k (question g) r e = question-reached k g r
+
+pub next-reached : (k : Book) (c : Call) → Reached k → Reached (next k c)
+unfolding next
+next-reached k c r =
+    by-cond Reached (eqb (refusal k c) 0) (taken k c) k (λ e. taken-reached k c r (eqb-true (refusal k c) 0 e)) (λ _. r)
+
+refused-unchanged : (k : Book) (c : Call) → (refusal k c ≡ 0 → ⊥) → next k c ≡ k
+unfolding next
+refused-unchanged k c h = rw (ne-eqb (refusal k c) 0 h)
+
+answered : (k : Book) (c : Call) → Reached k → Answered k c
+answered k (addFlat f) r = tt
+answered k (addImplication i) r = tt
+answered k (question g) r = question-settled k g r
+
+claims : (cs : List Call) (k : Book) → Reached k → Claims k cs
+claims [] k r = r .well-formed
+claims (c ∷ cs) k r = (
+  record { well-formed = r .well-formed; refused-unchanged = refused-unchanged k c; answered = answered k c r },
+  claims cs (next k c) (next-reached k c r),
+)
+
+pub book-claims : (n : ℕ) (cs : List Call) → Claims (opened n) cs
+book-claims n cs = claims cs (opened n) (opened-reached n)

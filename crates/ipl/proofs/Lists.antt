@@ -1,0 +1,171 @@
+-- Laws of the tests and statements over lists.
+use mathlib.Core.Bool.{Bool, true, false, cond, _&&_}
+use mathlib.Core.List.{List, [], _∷_, _++_, map}
+use mathlib.Core.Logic.{inl, inr}
+use mathlib.Core.Path.{_≡_, refl, sym, ap, subst}
+use Prim.Native.Nat.{ℕ, zero, suc, _≤_, _<_, zero-le, suc-le-suc}
+use native.Mathlib.Nat.{not-suc-le-zero, le-of-suc-le-suc}
+use native.Mathlib.Omega.{arith}
+use lib.Arith.{lt-of-le-ne}
+use lib.Dec.{T, eqb}
+use lib.ListN.{length, getD}
+use borrow.Author.Tests.{eqb-true, eqb-false}
+use Rattle.atoms.proofs.Truth.{T-left, T-right, T-and, T-or, T-inl, T-inr}
+use Rattle.ipl.specs.Lists.{all, any, All, Distinct}
+
+-- ---- every element
+
+pub all-All : {A : Type 0} (p : A → Bool) (l : List A) → T (all p l) → All (λ (x : A). T (p x)) l
+unfolding all
+all-All p [] t = tt
+all-All p (x ∷ l) t = (T-left (p x) (all p l) t, all-All p l (T-right (p x) (all p l) t))
+
+pub All-all : {A : Type 0} (p : A → Bool) (l : List A) → All (λ (x : A). T (p x)) l → T (all p l)
+unfolding all
+All-all p [] h = tt
+All-all p (x ∷ l) h = T-and (p x) (all p l) (h .0) (All-all p l (h .1))
+
+pub all-snoc : {A : Type 0} (p : A → Bool) (l : List A) (x : A) → all p (l ++ (x ∷ [])) ≡ all p l && p x
+unfolding all
+all-snoc p [] x = go (p x)
+  where
+    go : (b : Bool) → b && true ≡ b
+    go true = refl
+    go false = refl
+all-snoc p (y ∷ l) x = go (p y) (all p (l ++ (x ∷ []))) (all p l) (all-snoc p l x)
+  where
+    go : (b c d : Bool) → c ≡ d && p x → b && c ≡ b && d && p x
+    go true c d e = e
+    go false c d e = refl
+
+pub All-map : {A : Type 0} {P Q : A → Type 0} (l : List A) → ((x : A) → P x → Q x) → All P l → All Q l
+All-map [] f h = tt
+All-map (x ∷ l) f h = (f x (h .0), All-map l f (h .1))
+
+pub All-zip : {A : Type 0} (P Q : A → Type 0) (l : List A) → All P l → All Q l → All (λ (x : A). P x × Q x) l
+All-zip P Q [] h k = tt
+All-zip P Q (x ∷ l) h k = ((h .0, k .0), All-zip P Q l (h .1) (k .1))
+
+pub All-append : {A : Type 0} (P : A → Type 0) (l r : List A) → All P l → All P r → All P (l ++ r)
+All-append P [] r h k = k
+All-append P (x ∷ l) r h k = (h .0, All-append P l r (h .1) k)
+
+pub All-left : {A : Type 0} (P : A → Type 0) (l r : List A) → All P (l ++ r) → All P l
+All-left P [] r h = tt
+All-left P (x ∷ l) r h = (h .0, All-left P l r (h .1))
+
+pub All-right : {A : Type 0} (P : A → Type 0) (l r : List A) → All P (l ++ r) → All P r
+All-right P [] r h = h
+All-right P (x ∷ l) r h = All-right P l r (h .1)
+
+-- By places.
+pub All-at : {A : Type 0} (P : A → Type 0) (l : List A) (d : A) → All P l → (k : ℕ) → k < length l → P (getD l k d)
+All-at P [] d h k lt = absurd (not-suc-le-zero lt)
+All-at P (x ∷ l) d h zero lt = h .0
+All-at P (x ∷ l) d h (suc k) lt = All-at P l d (h .1) k (le-of-suc-le-suc lt)
+
+pub All-of : {A : Type 0} (P : A → Type 0) (l : List A) (d : A) → ((k : ℕ) → k < length l → P (getD l k d)) → All P l
+All-of P [] d f = tt
+All-of P (x ∷ l) d f = (f 0 (suc-le-suc zero-le), All-of P l d (λ k h. f (suc k) (suc-le-suc h)))
+
+-- ---- some element
+
+pub any-at : {A : Type 0} (p : A → Bool) (l : List A) (d : A) → T (any p l) → (k : ℕ) × (k < length l) × T (p (getD l k d))
+unfolding any
+any-at p [] d t = absurd t
+any-at p (x ∷ l) d t = elim (T-or (p x) (any p l) t) [
+  | inl h ↦ (0, suc-le-suc zero-le, h)
+  | inr h ↦ let r = any-at p l d h in (suc (r .0), suc-le-suc (r .1), r .2)
+]
+
+pub at-any : {A : Type 0} (p : A → Bool) (l : List A) (d : A) (k : ℕ) → k < length l → T (p (getD l k d)) → T (any p l)
+unfolding any
+at-any p [] d k h t = absurd (not-suc-le-zero h)
+at-any p (x ∷ l) d zero h t = T-inl (p x) (any p l) t
+at-any p (x ∷ l) d (suc k) h t = T-inr (p x) (any p l) (at-any p l d k (le-of-suc-le-suc h) t)
+
+pub any-left : {A : Type 0} (p : A → Bool) (l r : List A) → T (any p l) → T (any p (l ++ r))
+unfolding any
+any-left p [] r t = absurd t
+any-left p (x ∷ l) r t = elim (T-or (p x) (any p l) t) [
+  | inl h ↦ T-inl (p x) (any p (l ++ r)) h
+  | inr h ↦ T-inr (p x) (any p (l ++ r)) (any-left p l r h)
+]
+
+pub any-last : {A : Type 0} (p : A → Bool) (l : List A) (x : A) → T (p x) → T (any p (l ++ (x ∷ [])))
+unfolding any
+any-last p [] x t = T-inl (p x) false t
+any-last p (y ∷ l) x t = T-inr (p y) (any p (l ++ (x ∷ []))) (any-last p l x t)
+
+-- An element that passes one test, where every element has a property.
+pub any-with : {A : Type 0} (p : A → Bool) (Q : A → Type 0) (C : Type 0) (l : List A) → T (any p l) → All Q l → ((x : A) → T (p x) → Q x → C) → C
+unfolding any
+any-with p Q C [] t h f = absurd t
+any-with p Q C (x ∷ l) t h f = elim (T-or (p x) (any p l) t) [ inl s ↦ f x s (h .0) | inr s ↦ any-with p Q C l s (h .1) f ]
+
+pub map-snoc : {A B : Type 0} (f : A → B) (l : List A) (x : A) → map f (l ++ (x ∷ [])) ≡ map f l ++ (f x ∷ [])
+map-snoc f [] x = refl
+map-snoc f (y ∷ l) x = ap (λ r. f y ∷ r) (map-snoc f l x)
+
+-- ---- no two equal
+
+pub distinct-snoc : {A : Type 0} (l : List A) (m : A) → Distinct l → All (λ y. y ≡ m → ⊥) l → Distinct (l ++ (m ∷ []))
+distinct-snoc [] m d h = (tt, tt)
+distinct-snoc (x ∷ l) m d h = (All-append (λ y. x ≡ y → ⊥) l (m ∷ []) (d .0) (h .0, tt), distinct-snoc l m (d .1) (h .1))
+
+-- The list without the number k.
+without : ℕ → List ℕ → List ℕ
+without k [] = []
+without k (x ∷ l) = cond (eqb x k) (without k l) (x ∷ without k l)
+
+without-all : (P : ℕ → Type 0) (k : ℕ) (l : List ℕ) → All P l → All P (without k l)
+unfolding without
+without-all P k [] h = tt
+without-all P k (x ∷ l) h = go (without-all P k l (h .1)) (eqb x k)
+  where
+    go : All P (without k l) → (b : Bool) → All P (cond b (without k l) (x ∷ without k l))
+    go r true = r
+    go r false = (h .0, r)
+
+without-distinct : (k : ℕ) (l : List ℕ) → Distinct l → Distinct (without k l)
+unfolding without
+without-distinct k [] d = tt
+without-distinct k (x ∷ l) d = go (without-distinct k l (d .1)) (eqb x k)
+  where
+    go : Distinct (without k l) → (b : Bool) → Distinct (cond b (without k l) (x ∷ without k l))
+    go r true = r
+    go r false = (without-all (λ y. x ≡ y → ⊥) k l (d .0), r)
+
+without-below : (k : ℕ) (l : List ℕ) → All (λ x. x < suc k) l → All (λ x. x < k) (without k l)
+unfolding without
+without-below k [] h = tt
+without-below k (x ∷ l) h = go (without-below k l (h .1)) (eqb x k) refl
+  where
+    go : All (λ y. y < k) (without k l) → (b : Bool) → eqb x k ≡ b → All (λ y. y < k) (cond b (without k l) (x ∷ without k l))
+    go r true e = r
+    go r false e = (lt-of-le-ne (omega (arith, h .0)) (eqb-false x k e), r)
+
+without-none : (k : ℕ) (l : List ℕ) → All (λ y. k ≡ y → ⊥) l → length (without k l) ≡ length l
+unfolding without
+without-none k [] h = refl
+without-none k (x ∷ l) h = go (without-none k l (h .1)) (eqb x k) refl
+  where
+    go : length (without k l) ≡ length l → (b : Bool) → eqb x k ≡ b → length (cond b (without k l) (x ∷ without k l)) ≡ suc (length l)
+    go r true e = absurd (h .0 (sym (eqb-true x k e)))
+    go r false e = ap suc r
+
+without-length : (k : ℕ) (l : List ℕ) → Distinct l → length l ≤ suc (length (without k l))
+unfolding without
+without-length k [] d = zero-le
+without-length k (x ∷ l) d = go (without-length k l (d .1)) (eqb x k) refl
+  where
+    go : length l ≤ suc (length (without k l)) → (b : Bool) → eqb x k ≡ b → suc (length l) ≤ suc (length (cond b (without k l) (x ∷ without k l)))
+    go r true e = omega (arith, without-none k l (subst (λ y. All (λ z. y ≡ z → ⊥) l) (eqb-true x k e) (d .0)))
+    go r false e = suc-le-suc r
+
+-- Different numbers below N are at most N.
+pub pigeonhole : (N : ℕ) (l : List ℕ) → Distinct l → All (λ x. x < N) l → length l ≤ N
+pigeonhole zero [] d h = zero-le
+pigeonhole zero (x ∷ l) d h = absurd (not-suc-le-zero (h .0))
+pigeonhole (suc N) l d h =
+    omega (arith, without-length N l d, pigeonhole N (without N l) (without-distinct N l d) (without-below N l h))

@@ -1,0 +1,65 @@
+-- Numbers in range, as statements.
+use mathlib.Core.Bool.{false, _&&_}
+use mathlib.Core.Logic.{_⊎_, inl, inr}
+use mathlib.Core.Path.{_≡_, subst}
+use Prim.Native.Nat.{ℕ, _^_, _<_}
+use lib.Dec.{T, eqb, ltb, eqb→eq, ltb→lt, lt→ltb}
+use lib.Pow.{pow-pos, pow-lt}
+use Rattle.atoms.specs.Sets.{has, single}
+use Rattle.atoms.proofs.Truth.{T-left, T-right, T-or, false-T, by-cond}
+use Rattle.atoms.proofs.Members.{has-empty, has-single}
+use Rattle.ipl.specs.Clause.{bot, one, Flat, Implication}
+use Rattle.ipl.specs.Range.{atomOrBot, setInRange, flatInRange, implicationInRange}
+use borrow.Author.Tests.{eqb-false}
+
+abbrev pub AtomOrBot : ℕ → ℕ → Type 0
+AtomOrBot n x = (x < n) ⊎ (x ≡ bot)
+
+pub record FlatBelow (n : ℕ) (f : Flat) : Type 0 where
+  pub left : f .left < 2 ^ n
+  pub right : f .right < 2 ^ n
+
+pub record ImplicationBelow (n : ℕ) (i : Implication) : Type 0 where
+  pub a : i .a < n
+  pub b : AtomOrBot n (i .b)
+  pub c : AtomOrBot n (i .c)
+
+pub atom-or-bot : (n x : ℕ) → T (atomOrBot n x) → AtomOrBot n x
+unfolding atomOrBot
+atom-or-bot n x t = elim (T-or (ltb x n) (eqb x bot) t) [ inl h ↦ inl (ltb→lt x n h) | inr h ↦ inr (eqb→eq x bot h) ]
+
+pub flat-below : (n : ℕ) (f : Flat) → T (flatInRange n f) → FlatBelow n f
+unfolding flatInRange setInRange
+flat-below n f t = record {
+  left = ltb→lt (f .left) (2 ^ n) (T-left (ltb (f .left) (2 ^ n)) (ltb (f .right) (2 ^ n)) t);
+  right = ltb→lt (f .right) (2 ^ n) (T-right (ltb (f .left) (2 ^ n)) (ltb (f .right) (2 ^ n)) t);
+}
+
+pub implication-below : (n : ℕ) (i : Implication) → T (implicationInRange n i) → ImplicationBelow n i
+unfolding implicationInRange
+implication-below n i t =
+    let ab = T-left (ltb (i .a) n && atomOrBot n (i .b)) (atomOrBot n (i .c)) t in
+    record {
+      a = ltb→lt (i .a) n (T-left (ltb (i .a) n) (atomOrBot n (i .b)) ab);
+      b = atom-or-bot n (i .b) (T-right (ltb (i .a) n) (atomOrBot n (i .b)) ab);
+      c = atom-or-bot n (i .c) (T-right (ltb (i .a) n && atomOrBot n (i .b)) (atomOrBot n (i .c)) t);
+    }
+
+-- The set of one atom or of ⊥.
+pub one-below : (n x : ℕ) → AtomOrBot n x → one x < 2 ^ n
+unfolding one
+one-below n x h = by-cond (λ s. s < 2 ^ n) (eqb x bot) 0 (single x) (λ e. pow-pos n) (λ e. atom e h)
+  where
+    atom : eqb x bot ≡ false → AtomOrBot n x → single x < 2 ^ n
+    atom e (inl l) = pow-lt l
+    atom e (inr q) = absurd (eqb-false x bot e q)
+
+pub has-one : (x j : ℕ) → T (has (one x) j) → x ≡ j
+unfolding one
+has-one x j =
+    by-cond (λ s. T (has s j) → x ≡ j) (eqb x bot) 0 (single x)
+    (λ e t. absurd (false-T (has-empty j) t)) (λ e t. eqb→eq x j (subst T (has-single x j) t))
+
+pub one-in-range : (n x : ℕ) → AtomOrBot n x → T (setInRange n (one x))
+unfolding setInRange
+one-in-range n x h = lt→ltb (one x) (2 ^ n) (one-below n x h)

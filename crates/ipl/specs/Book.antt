@@ -1,0 +1,86 @@
+-- The book of demand 3: what is held after a list of calls, and the number that each call meets (document 01).
+use mathlib.Core.Bool.{Bool, not, cond, _&&_}
+use mathlib.Core.List.{List, [], _∷_, _++_}
+use Prim.Native.Nat.{ℕ}
+use lib.Dec.{eqb, leb}
+use lib.ListN.{length}
+use Rattle.atoms.specs.Sets.{limit}
+use Rattle.ipl.specs.Clause.{bot, Flat, Implication, closings}
+use Rattle.ipl.specs.Range.{flatTable, implicationTable, atomOrBot, flatInRange, implicationInRange}
+use Rattle.ipl.specs.Search.{Step, Outcome, valid, refuted, refused, unfinished, search}
+
+-- "It has n, flat clauses, implications and learned steps, each in order."
+pub record Book : Type 0 where
+  pub n : ℕ
+  pub flats : List Flat
+  pub implications : List Implication
+  pub steps : List Step
+
+-- "Adding a flat clause, adding an implication, putting a question."
+pub data Call : Type 0 where
+  addFlat : Flat → Call
+  addImplication : Implication → Call
+  question : ℕ → Call
+
+unfoldable pub countInRange : ℕ → Bool
+countInRange n = leb 1 n && leb n limit
+
+-- "5: n not 1 to 64 at opening"; 0 where the opening is not refused.
+unfoldable pub openRefusal : ℕ → ℕ
+openRefusal n = cond (countInRange n) 0 5
+
+-- "An opening gives its n, or 1 where n is out of range; the rest begins empty."
+unfoldable pub opened : ℕ → Book
+opened n = record { n = cond (countInRange n) n 1; flats = []; implications = []; steps = [] }
+
+unfoldable pub flatsFull : Book → Bool
+flatsFull k = leb flatTable (length (k .flats))
+
+-- 6: out of range; 7: flat table full.
+unfoldable pub flatRefusal : Book → Flat → ℕ
+flatRefusal k f = cond (not (flatInRange (k .n) f)) 6 (cond (flatsFull k) 7 0)
+
+-- 6: out of range; 7: flat table full and a row needed (with b = ⊥ none is); 8: implication table full.
+unfoldable pub implicationRefusal : Book → Implication → ℕ
+implicationRefusal k i =
+    cond (not (implicationInRange (k .n) i)) 6
+    (cond (not (eqb (i .b) bot) && flatsFull k) 7 (cond (leb implicationTable (length (k .implications))) 8 0))
+
+-- "A question runs the fixed search", or meets 6; 11 and 12 are the search's own.
+unfoldable pub answer : Book → ℕ → Outcome
+answer k g = cond (atomOrBot (k .n) g) (search (k .n) (k .flats) (k .implications) g (k .steps)) (refused 6)
+
+unfoldable pub numberOf : Outcome → ℕ
+numberOf (valid s) = 0
+numberOf (refuted s) = 0
+numberOf (refused number) = number
+numberOf unfinished = 0
+
+-- The number of the refusal that a call meets; 0 for none.
+unfoldable pub refusal : Book → Call → ℕ
+refusal k (addFlat f) = flatRefusal k f
+refusal k (addImplication i) = implicationRefusal k i
+refusal k (question g) = numberOf (answer k g)
+
+-- The steps held after an answer: "the new steps go to the end".
+unfoldable pub stepsAfter : List Step → Outcome → List Step
+stepsAfter S (valid s) = s .steps
+stepsAfter S (refuted s) = s .steps
+stepsAfter S (refused number) = S
+stepsAfter S unfinished = S
+
+-- What a call that is not refused makes of the book.
+unfoldable pub taken : Book → Call → Book
+taken k (addFlat f) = record { n = k .n; flats = k .flats ++ (f ∷ []); implications = k .implications; steps = k .steps }
+taken k (addImplication i) =
+    record { n = k .n; flats = k .flats ++ closings i; implications = k .implications ++ (i ∷ []); steps = k .steps }
+taken k (question g) = record { n = k .n; flats = k .flats; implications = k .implications; steps = stepsAfter (k .steps) (answer k g) }
+
+-- "A call that meets one of the caller's refusals, judged by the book, changes nothing", nor does one that meets 11 or 12.
+unfoldable pub next : Book → Call → Book
+next k c = cond (eqb (refusal k c) 0) (taken k c) k
+
+-- The book after a list of calls.
+unfoldable pub after : Book → List Call → Book
+after k [] = k
+after k (c ∷ cs) = after (next k c) cs

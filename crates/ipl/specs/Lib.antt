@@ -1,0 +1,11 @@
+-- The definitions of document 01, in the order in which they build on each other.
+pub mod Lists
+pub mod Clause
+pub mod Range
+pub mod Question
+pub mod Search
+pub mod Formula
+pub mod Kripke
+pub mod Claim
+pub mod Book
+pub mod Demand

@@ -1,0 +1,1 @@
+// Intuitionistic propositional logic: definitions in specs/, theorems in proofs/, and no code.
