@@ -6,7 +6,7 @@ use native.Mathlib.Decide.{decLt}
 use native.Mathlib.Omega.{arith}
 use lib.Arith.{bin-ind, digits-mod}
 use lib.Bits.{bitAnd, bitOr, bitXor, differ, and-step, or-step, xor-step, and-shr, or-shr, xor-shr}
-use lib.Pow.{pow-pos, pow-mono}
+use lib.Pow.{pow-pos, pow-mono, ones-lt, ones-sub-lt}
 use Rattle.atoms.specs.Sets.{bitAt, minus}
 
 pub bit-le : (a i : ℕ) → bitAt a i ≤ 1
@@ -138,3 +138,11 @@ and-not-minus w a b ha hb = bit-ext _ _ (λ i. go i (decLt i w))
     go : (i : ℕ) → Dec (i < w) → bitAt (bitAnd a ((2 ^ w - 1) - b)) i ≡ bitAt (minus a b) i
     go i (yes k) = omega (arith, bit-and a ((2 ^ w - 1) - b) i, bit-not w b i hb k, bit-le a i, bit-le b i, bit-minus a b i)
     go i (no k) = omega (arith, bit-and a ((2 ^ w - 1) - b) i, bit-past w a i ha (omega arith), bit-minus a b i)
+
+-- `!b` at width w.
+pub not-minus : (w b : ℕ) → b < 2 ^ w → (2 ^ w - 1) - b ≡ minus (2 ^ w - 1) b
+not-minus w b h = bit-ext _ _ (λ i. go i (decLt i w))
+  where
+    go : (i : ℕ) → Dec (i < w) → bitAt ((2 ^ w - 1) - b) i ≡ bitAt (minus (2 ^ w - 1) b) i
+    go i (yes k) = omega (arith, bit-not w b i h k, bit-ones w i k, bit-minus (2 ^ w - 1) b i)
+    go i (no k) = omega (arith, bit-past w ((2 ^ w - 1) - b) i (ones-sub-lt w b) (omega arith), bit-past w (2 ^ w - 1) i (ones-lt w) (omega arith), bit-minus (2 ^ w - 1) b i)

@@ -101,6 +101,15 @@ has-within a b f =
     true-T (eq-eqb (bitAnd a b) a
     (ext (bitAnd a b) a (λ i. has-and a b i ∙ T-iff (has a i && has b i) (has a i) (T-left (has a i) (has b i)) (λ t. T-and (has a i) (has b i) t (f i t)))))
 
+-- Inclusion, bit by bit.
+pub within-bits : (a b : ℕ) → T (within a b) → (i : ℕ) → bitAt a i ≤ bitAt b i
+unfolding within
+within-bits a b t i = omega (arith, bit-and a b i, ap (λ (x : ℕ). bitAt x i) (eqb→eq (bitAnd a b) a t))
+
+pub bits-within : (a b : ℕ) → ((i : ℕ) → bitAt a i ≤ bitAt b i) → T (within a b)
+unfolding within
+bits-within a b h = true-T (eq-eqb (bitAnd a b) a (bit-ext (bitAnd a b) a (λ i. omega (arith, bit-and a b i, h i))))
+
 pub within-refl : (a : ℕ) → T (within a a)
 within-refl a = has-within a a (λ i t. t)
 

@@ -12,6 +12,10 @@ use Rattle.atoms.specs.declared.AtomSet.{AtomSet}
 unfoldable pub num : AtomSet → ℕ
 num s = s .bits
 
+-- The set of all atoms.
+unfoldable pub everyAtom : ℕ
+everyAtom = 2 ^ limit - 1
+
 -- The set of atom i alone; a number past the atoms, such as ⊥, is in no set.
 unfoldable pub singleOrEmpty : ℕ → ℕ
 singleOrEmpty i = cond (ltb i limit) (single i) 0

@@ -3,7 +3,7 @@ ghost use mathlib.Core.Path.{_≡_};
 ghost use Prim.Native.Nat.{_^_, _<_};
 ghost use lib.Dec.{eqb};
 ghost use Rattle.atoms.specs.Sets.{limit, has, union, minus, within, meets};
-ghost use Rattle.atoms.specs.Words.{num, singleOrEmpty, below, HighestOrEmpty, rowOf, RowSet};
+ghost use Rattle.atoms.specs.Words.{num, everyAtom, singleOrEmpty, below, HighestOrEmpty, rowOf, RowSet};
 
 pub struct AtomSet {
     pub bits: u64,
@@ -57,6 +57,13 @@ impl AtomSet {
         AtomSet {
             bits: self.bits & !other.bits,
         }
+    }
+
+    // The atoms that self lacks.
+    pub fn complement(self) -> Self
+        ensures { λ r. ⌜ num r ≡ minus everyAtom (num self) ⌝ }
+    {
+        AtomSet { bits: !self.bits }
     }
 
     // Inclusion: each atom of self is one of other.
