@@ -2,15 +2,16 @@
 use mathlib.Core.Path.{_≡_, refl, ap, _∙_}
 use mathlib.Core.List.{List}
 use Prim.Native.Nat.{ℕ, _-_, _*_, _^_, _%_, _≤_, _<_, min}
-use native.Mathlib.Nat.{one-mul}
+use native.Mathlib.Nat.{one-mul, mod-lt}
 use native.Mathlib.Omega.{arith}
 use borrow.Author.Tests.{lt-ltb, le-ltb}
 use lib.Count.{leadingZeros, leading-top}
 use lib.ListN.{length, set, length-set}
-use lib.Pow.{shl-exact}
+use lib.Pow.{pow-pos, ones-lt, shl-exact}
 use lib.Seq.{getD-set-same, getD-set-other}
-use Rattle.atoms.specs.Sets.{limit}
-use Rattle.atoms.specs.Words.{singleOrEmpty, below, HighestOrEmpty, rowOf, rowCount, RowSet}
+use Rattle.atoms.specs.Sets.{bitAt, limit}
+use Rattle.atoms.proofs.Bits.{bit-ones, bit-past}
+use Rattle.atoms.specs.Words.{num, everyAtom, singleOrEmpty, below, HighestOrEmpty, rowOf, rowCount, RowSet}
 
 -- ⊥ is atom number 255, past every atom.
 pub limit-small : limit ≤ 255
@@ -20,6 +21,37 @@ limit-small = omega arith
 pub one-in-limit : 1 ≤ limit
 unfolding limit
 one-in-limit = omega arith
+
+pub num-empty : num (record { bits = 0 }) ≡ 0
+unfolding num
+num-empty = refl
+
+-- Every atom, bit by bit.
+pub every-atom : (i : ℕ) → i < limit → bitAt everyAtom i ≡ 1
+unfolding everyAtom
+every-atom i h = bit-ones limit i h
+
+pub every-past : (i : ℕ) → limit ≤ i → bitAt everyAtom i ≡ 0
+unfolding everyAtom
+every-past i h = bit-past limit (2 ^ limit - 1) i (ones-lt limit) h
+
+-- The atoms below n, bit by bit.
+pub below-in : (n i : ℕ) → i < min n limit → bitAt (below n) i ≡ 1
+unfolding below
+below-in n i h = bit-ones (min n limit) i h
+
+pub below-out : (n i : ℕ) → min n limit ≤ i → bitAt (below n) i ≡ 0
+unfolding below
+below-out n i h = bit-past (min n limit) (2 ^ min n limit - 1) i (ones-lt (min n limit)) h
+
+-- One atom or none, bit by bit.
+pub single-bits : (i : ℕ) → i < limit → singleOrEmpty i ≡ 2 ^ i
+unfolding singleOrEmpty
+single-bits i h = rw (lt-ltb i limit h)
+
+pub single-none : (i : ℕ) → limit ≤ i → singleOrEmpty i ≡ 0
+unfolding singleOrEmpty
+single-none i h = rw (le-ltb i limit h)
 
 -- `1 << i`.
 pub one-shl : (i : ℕ) → i < 64 → 1 * 2 ^ i % 2 ^ 64 ≡ 2 ^ i
@@ -46,6 +78,7 @@ pub leading-small : (a : ℕ) → 0 < a → a < 2 ^ 64 → leadingZeros 64 a ≤
 leading-small a p h = let t = leading-top 64 a p h in omega arith
 
 pub highest-word : (a : ℕ) → 0 < a → a < 2 ^ 64 → HighestOrEmpty a (1 * 2 ^ (63 - leadingZeros 64 a) % 2 ^ 64)
+unfolding limit
 highest-word a p h =
     let t = leading-top 64 a p h in
     let here : 63 - leadingZeros 64 a ≡ t .0 = omega (arith, t .1) in
@@ -58,10 +91,12 @@ highest-word a p h =
             member = t .2;
             above = t .3;
           };
+      bounded = mod-lt (1 * 2 ^ (63 - leadingZeros 64 a)) (pow-pos 64);
     }
 
 pub highest-none : (a : ℕ) → a ≡ 0 → HighestOrEmpty a a
-highest-none a e = record { empty = λ _. e; highest = λ h. absurd (omega arith) }
+unfolding limit
+highest-none a e = record { empty = λ _. e; highest = λ h. absurd (omega arith); bounded = omega arith }
 
 -- A store in a table of words, and none past its end.
 pub set-row : (t : List ℕ) (i x : ℕ) → i < length t → RowSet t i x (set t i x)

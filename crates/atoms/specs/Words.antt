@@ -28,6 +28,7 @@ below n = 2 ^ min n limit - 1
 pub record HighestOrEmpty (s x : ℕ) : Type 0 where
   pub empty : s ≡ 0 → x ≡ 0
   pub highest : 0 < s → Highest s x
+  pub bounded : x < 2 ^ limit
 
 -- How many sets a table of words holds, and the set in row i: past the end, the empty set.
 unfoldable pub rowCount : List ℕ → ℕ

@@ -1,0 +1,114 @@
+-- Laws of tables of clauses, and of the relations between sets bit by bit.
+use mathlib.Core.Bool.{Bool, true, false, not, _||_}
+use mathlib.Core.List.{List, [], _∷_}
+use mathlib.Core.Logic.{_↔_, inl, inr}
+use mathlib.Core.Path.{_≡_, refl, ap, _∙_, subst}
+use Prim.Native.Nat.{ℕ, zero, suc, _+_, _-_, _<_, max}
+use native.Mathlib.Decide.{decLe}
+use native.Mathlib.Nat.{not-suc-le-zero}
+use native.Mathlib.Numerals.{add-one}
+use native.Mathlib.Omega.{arith}
+use lib.Dec.{T, T-not}
+use Rattle.atoms.specs.Sets.{bitAt, union, minus, within, meets}
+use Rattle.atoms.specs.Words.{rowOf}
+use Rattle.atoms.proofs.Truth.{T-left, T-right, T-and, T-or, T-false, true-T, false-T}
+use Rattle.atoms.proofs.Bits.{bit-le, bit-or, bit-minus}
+use Rattle.atoms.proofs.Members.{has-bit, bit-has, within-bits, bits-within, has-meets, meets-has}
+use Rattle.ipl.specs.Clause.{Flat, satisfies}
+use Rattle.ipl.specs.Lists.{All}
+use Rattle.ipl.proofs.Lists.{All-append, All-left, All-right}
+use Rattle.sat.specs.Table.{clauseAt, clauses, allHold, Apart, Meets, Holds, AllHold}
+
+-- ---- the operations, by a result's equation
+
+pub union-bits : (a b r : ℕ) → r ≡ union a b → (i : ℕ) → bitAt r i ≡ max (bitAt a i) (bitAt b i)
+union-bits a b r e i = ap (λ (z : ℕ). bitAt z i) e ∙ bit-or a b i
+
+pub minus-bits : (a b r : ℕ) → r ≡ minus a b → (i : ℕ) → bitAt r i ≡ bitAt a i - bitAt b i
+minus-bits a b r e i = ap (λ (z : ℕ). bitAt z i) e ∙ bit-minus a b i
+
+-- ---- the tests
+
+pub meets-Meets : (a b : ℕ) → T (meets a b) → Meets a b
+meets-Meets a b t = let r = meets-has a b t in (r .0, has-bit a (r .0) (r .1), has-bit b (r .0) (r .2))
+
+pub Meets-meets : (a b : ℕ) → Meets a b → T (meets a b)
+Meets-meets a b r = has-meets a b (r .0) (bit-has a (r .0) (r .1)) (bit-has b (r .0) (r .2))
+
+pub apart-of : (a b : ℕ) → meets a b ≡ false → Apart a b
+apart-of a b e i = elim (decLe (bitAt a i + bitAt b i) 1) [
+  | yes k ↦ k
+  | no k ↦ absurd (false-T e (Meets-meets a b (i, omega (arith, bit-le a i, bit-le b i), omega (arith, bit-le a i, bit-le b i))))
+]
+
+-- ---- truth of clauses
+
+pub satisfies-holds : (l r m : ℕ) → T (satisfies m (record { left = l; right = r })) → Holds l r m
+unfolding satisfies
+satisfies-holds l r m t w = elim (T-or (not (within l m)) (meets r m) t) [
+  | inl outside ↦ absurd (T-not (within l m) outside (bits-within l m w))
+  | inr common ↦ meets-Meets r m common
+]
+
+pub holds-satisfies : (l r m : ℕ) → Holds l r m → T (satisfies m (record { left = l; right = r }))
+unfolding satisfies
+holds-satisfies l r m h = go (within l m) refl
+  where
+    go : (b : Bool) → within l m ≡ b → T (not b || meets r m)
+    go false e = tt
+    go true e = Meets-meets r m (h (within-bits l m (true-T e)))
+
+-- By the test of the left side first.
+pub satisfies-in : (l r m : ℕ) → within l m ≡ true → satisfies m (record { left = l; right = r }) ≡ meets r m
+unfolding satisfies
+satisfies-in l r m e = rw e
+
+pub satisfies-out : (l r m : ℕ) → within l m ≡ false → satisfies m (record { left = l; right = r }) ≡ true
+unfolding satisfies
+satisfies-out l r m e = rw e
+
+module _ (left right : List ℕ) where
+  all-hold-at : (m count : ℕ) → T (allHold left right m count) → AllHold left right count m
+  unfolding allHold
+  all-hold-at m zero t k l = absurd (not-suc-le-zero l)
+  all-hold-at m (suc count) t k l = elim (decLe (suc k) count) [
+    | yes h ↦ all-hold-at m count (T-left (allHold left right m count) (satisfies m (clauseAt left right count)) t) k h
+    | no h ↦ subst (λ (j : ℕ). Holds (rowOf left j) (rowOf right j) m) (omega arith)
+        (satisfies-holds (rowOf left count) (rowOf right count) m (T-right (allHold left right m count) (satisfies m (clauseAt left right count)) t))
+  ]
+
+  all-hold-of : (m count : ℕ) → AllHold left right count m → T (allHold left right m count)
+  unfolding allHold
+  all-hold-of m zero h = tt
+  all-hold-of m (suc count) h =
+      T-and (allHold left right m count) (satisfies m (clauseAt left right count))
+      (all-hold-of m count (λ k l. h k (omega arith))) (holds-satisfies (rowOf left count) (rowOf right count) m (h count (omega arith)))
+
+  pub all-hold-iff : (m count : ℕ) → T (allHold left right m count) ↔ AllHold left right count m
+  all-hold-iff m count = (all-hold-at m count, all-hold-of m count)
+
+  -- Row i, read as l and r, with its test's outcome.
+  module _ (m i l r : ℕ) (el : l ≡ rowOf left i) (er : r ≡ rowOf right i) where
+    pub all-hold-next : allHold left right m i ≡ true → satisfies m (record { left = l; right = r }) ≡ true → allHold left right m (i + 1) ≡ true
+    unfolding allHold
+    all-hold-next h e = rw (add-one i, ← el, ← er, h, e)
+
+    pub all-hold-fails : (count : ℕ) → i < count → satisfies m (record { left = l; right = r }) ≡ false → allHold left right m count ≡ false
+    all-hold-fails count k e =
+        T-false (allHold left right m count) (λ t.
+        false-T e (holds-satisfies l r m (rw (el, er) (all-hold-at m count t i k))))
+
+  pub all-hold-clauses : (m count : ℕ) → AllHold left right count m ↔ All (λ f. T (satisfies m f)) (clauses left right count)
+  unfolding clauses
+  all-hold-clauses m zero = (λ h. tt, λ h k l. absurd (not-suc-le-zero l))
+  all-hold-clauses m (suc count) =
+      let P : Flat → Type 0 = λ f. T (satisfies m f) in
+      let ih = all-hold-clauses m count in (
+        λ h. All-append P (clauses left right count) (clauseAt left right count ∷ []) (ih .0 (λ k l. h k (omega arith)))
+            (holds-satisfies (rowOf left count) (rowOf right count) m (h count (omega arith)), tt),
+        λ h k l. elim (decLe (suc k) count) [
+          | yes w ↦ ih .1 (All-left P (clauses left right count) (clauseAt left right count ∷ []) h) k w
+          | no w ↦ subst (λ (j : ℕ). Holds (rowOf left j) (rowOf right j) m) (omega arith)
+              (satisfies-holds (rowOf left count) (rowOf right count) m (All-right P (clauses left right count) (clauseAt left right count ∷ []) h .0))
+        ],
+      )

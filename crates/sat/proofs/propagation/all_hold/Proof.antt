@@ -1,0 +1,62 @@
+-- The clauses passed are true at m.
+use borrow.Author.Needs.{needs}
+use borrow.Author.Tests.{not-true, not-false}
+use mathlib.Core.Bool.{true}
+use mathlib.Core.Path.{_≡_, refl, sym, _∙_, subst}
+use native.Mathlib.Omega.{arith}
+use Prim.Native.Nat.{ℕ, _≤_, _-_}
+use Rattle.atoms.specs.Words.{num}
+use Rattle.sat.specs.Table.{allHold}
+use Rattle.sat.proofs.Table.{all-hold-next, all-hold-fails}
+use Rattle.sat.proofs.propagation.all_hold.Statement.{statement}
+use Rattle.sat.proofs.propagation.all_hold.Tie as tie
+
+abbrev Inv-loop : tie.InvT-loop
+Inv-loop left right count m i₀ i = (i ≤ count) × (allHold left right (num m) i ≡ true)
+
+abbrev μ-loop : tie.MeasureT-loop
+μ-loop left right count m i₀ i = count - i
+
+loop-holds : tie.Need-loop-holds Inv-loop μ-loop
+unfolding allHold
+loop-holds c = (omega arith, refl)
+
+row-requires : tie.Need-row-requires Inv-loop μ-loop
+row-requires c κs = search needs
+
+row-requires-2 : tie.Need-row-requires-2 Inv-loop μ-loop
+row-requires-2 c κs = search needs
+
+holds-requires : tie.Need-holds-requires Inv-loop μ-loop
+holds-requires c κs = search needs
+
+returns : tie.Need-returns Inv-loop μ-loop
+returns c =
+    let r = c .before .before in
+    sym (all-hold-fails _ _ _ (r .before .before .before .loop .i) _ _ (r .before .row .ensures) (r .row2 .ensures) (r .before .before .before .before .before .before .args .count) (omega arith)
+    (sym (c .before .holds .ensures) ∙ not-true _ (c .if1 .taken)))
+
+add-i : tie.Need-add-i Inv-loop μ-loop
+add-i c = omega arith
+
+loop-less : tie.Need-loop-less Inv-loop μ-loop
+loop-less c = omega arith
+
+loop-again : tie.Need-loop-again Inv-loop μ-loop
+loop-again c =
+    let r = c .before .before in
+    let l = r .before .before .before in (
+      omega arith,
+      all-hold-next _ _ _ (l .loop .i) _ _ (r .before .row .ensures) (r .row2 .ensures) (l .loop .inv .1)
+          (sym (c .before .holds .ensures) ∙ not-false _ (c .if1 .left)),
+    )
+
+returns-2 : tie.Need-returns-2 Inv-loop μ-loop
+returns-2 c =
+    sym (subst (λ (k : ℕ). allHold (c .before .before .before .before .args .left .now) (c .before .before .before .before .args .right .now) (num (c .before .before .before .before .args .m)) k ≡ true)
+    (omega arith) (c .before .loop .inv .1))
+
+pub all-hold-spec : {M : Type 1} → statement M
+all-hold-spec =
+    tie.close
+    (tie.spec Inv-loop μ-loop loop-holds row-requires row-requires-2 holds-requires returns add-i loop-less loop-again returns-2)

@@ -1,0 +1,118 @@
+-- What a clause adds: each answer that learns something cites a law of Clause.
+use borrow.Author.Needs.{needs}
+use borrow.Author.Tests.{eqb-true}
+use mathlib.Core.Path.{sym, _∙_}
+use Rattle.sat.proofs.Clause.{conflict, learn-has, learn-lacks}
+use Rattle.sat.proofs.propagation.unit.Statement.{statement}
+use Rattle.sat.proofs.propagation.unit.Tie as tie
+
+meets-requires : tie.Need-meets-requires
+meets-requires c κs = search needs
+
+returns : tie.Need-returns
+returns c = search needs
+
+meets-requires-2 : tie.Need-meets-requires-2
+meets-requires-2 c κs = search needs
+
+returns-2 : tie.Need-returns-2
+returns-2 c = search needs
+
+without-requires : tie.Need-without-requires
+without-requires c κs = search needs
+
+without-requires-2 : tie.Need-without-requires-2
+without-requires-2 c κs = search needs
+
+is-empty-requires : tie.Need-is-empty-requires
+is-empty-requires c κs = search needs
+
+is-empty-requires-2 : tie.Need-is-empty-requires-2
+is-empty-requires-2 c κs = search needs
+
+returns-3 : tie.Need-returns-3
+returns-3 c =
+    let w = c .before .before .before .before in
+    conflict _ _ _ _ _ _ (w .before .without .ensures) (w .without2 .ensures)
+    (eqb-true _ _ (sym (c .before .before .before .is-empty .ensures) ∙ c .before .before .if3 .taken))
+    (eqb-true _ _ (sym (c .before .is-empty2 .ensures) ∙ c .if4 .taken))
+
+highest-requires : tie.Need-highest-requires
+highest-requires c κs = search needs
+
+same-requires : tie.Need-same-requires
+same-requires c κs = search needs
+
+having-requires : tie.Need-having-requires
+having-requires c κs = search needs
+
+returns-4 : tie.Need-returns-4
+returns-4 c =
+    let s = c .before .before in
+    let b = s .before .before in
+    let e = b .before .before in
+    let w = e .before .before in
+    learn-has _ _ _ _ _ _ (w .before .without .ensures) (w .without2 .ensures) _ _
+    (eqb-true _ _ (sym (e .before .is-empty .ensures) ∙ e .if3 .taken))
+    (sym (b .before .is-empty2 .ensures) ∙ b .if4 .left)
+    (s .before .highest .ensures) (sym (s .same .ensures) ∙ c .before .if5 .taken) (c .having .ensures)
+    (w .before .before .before .before .before .before .before .before .pre)
+
+returns-5 : tie.Need-returns-5
+returns-5 c = search needs
+
+is-empty-requires-3 : tie.Need-is-empty-requires-3
+is-empty-requires-3 c κs = search needs
+
+highest-requires-2 : tie.Need-highest-requires-2
+highest-requires-2 c κs = search needs
+
+same-requires-2 : tie.Need-same-requires-2
+same-requires-2 c κs = search needs
+
+lacking-requires : tie.Need-lacking-requires
+lacking-requires c κs = search needs
+
+returns-6 : tie.Need-returns-6
+returns-6 c =
+    let s = c .before .before in
+    let b = s .before .before in
+    let e = b .before .before in
+    let w = e .before .before in
+    learn-lacks _ _ _ _ _ _ (w .before .without .ensures) (w .without2 .ensures) _ _
+    (eqb-true _ _ (sym (b .before .is-empty3 .ensures) ∙ b .if6 .taken))
+    (sym (e .before .is-empty .ensures) ∙ e .if3 .left)
+    (s .before .highest2 .ensures) (sym (s .same2 .ensures) ∙ c .before .if7 .taken) (c .lacking .ensures)
+    (w .before .before .before .before .before .before .before .before .pre)
+
+returns-7 : tie.Need-returns-7
+returns-7 c = search needs
+
+returns-8 : tie.Need-returns-8
+returns-8 c = search needs
+
+pub unit-spec : {M : Type 1} → statement M
+unit-spec =
+    tie.close
+    (tie.spec
+    meets-requires
+    returns
+    meets-requires-2
+    returns-2
+    without-requires
+    without-requires-2
+    is-empty-requires
+    is-empty-requires-2
+    returns-3
+    highest-requires
+    same-requires
+    having-requires
+    returns-4
+    returns-5
+    is-empty-requires-3
+    highest-requires-2
+    same-requires-2
+    lacking-requires
+    returns-6
+    returns-7
+    returns-8)

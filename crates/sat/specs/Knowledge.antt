@@ -1,0 +1,57 @@
+-- What is known of a model, and what follows from it by propagation. P is what is asked of a model.
+use mathlib.Core.Bool.{Bool, _&&_}
+use mathlib.Core.Path.{_≡_}
+use Prim.Native.Nat.{ℕ, _^_, _<_}
+use lib.Dec.{eqb}
+use Rattle.atoms.specs.Sets.{limit}
+use Rattle.atoms.specs.Words.{num}
+use Rattle.sat.specs.Table.{Within, Apart}
+use Rattle.sat.specs.declared.Partial.{Partial}
+use Rattle.sat.specs.declared.propagation.Forced.{Forced}
+use Rattle.sat.specs.declared.propagation.Forced.the-variants.{Conflict, Known}
+
+-- p knows these two sets.
+pub record PartialIs (p : Partial) (has lacks : ℕ) : Type 0 where
+  pub has-is : num (p .has) ≡ has
+  pub lacks-is : num (p .lacks) ≡ lacks
+
+abbrev pub samePartial : Partial → Partial → Bool
+samePartial p q = eqb (num (p .has)) (num (q .has)) && eqb (num (p .lacks)) (num (q .lacks))
+
+-- m has all of y and none of x.
+pub record Extends (y x m : ℕ) : Type 0 where
+  pub includes : Within y m
+  pub avoids : Apart x m
+
+abbrev pub Fits : Partial → ℕ → Type 0
+Fits p m = Extends (num (p .has)) (num (p .lacks)) m
+
+-- No atom is known both ways, and both sets are bounded.
+pub record Proper (y x : ℕ) : Type 0 where
+  pub apart : Apart y x
+  pub has-below : y < 2 ^ limit
+  pub lacks-below : x < 2 ^ limit
+
+abbrev pub Fair : Partial → Type 0
+Fair p = Proper (num (p .has)) (num (p .lacks))
+
+-- y2 and x2 know what y and x do, and what P adds to it.
+pub record Grown (P : ℕ → Type 0) (y x y2 x2 : ℕ) : Type 0 where
+  pub more-has : Within y y2
+  pub more-lacks : Within x x2
+  pub proper : Proper y2 x2
+  pub keeps : (m : ℕ) → Extends y x m → P m → Extends y2 x2 m
+
+-- What follows from p and P.
+abbrev pub Forces : (ℕ → Type 0) → Partial → Forced → Type 0
+Forces P p Conflict = (m : ℕ) → Fits p m → P m → ⊥
+Forces P p (Known q) = Grown P (num (p .has)) (num (p .lacks)) (num (q .has)) (num (q .lacks))
+
+-- No set of atoms is a model that fits both b and r.
+abbrev pub Blocks : (ℕ → Type 0) → Partial → Partial → Type 0
+Blocks P b r = (m : ℕ) → m < 2 ^ limit → P m → Fits b m → Fits r m → ⊥
+
+-- r knows no more than d.
+pub record Part (r d : Partial) : Type 0 where
+  pub has-part : Within (num (r .has)) (num (d .has))
+  pub lacks-part : Within (num (r .lacks)) (num (d .lacks))

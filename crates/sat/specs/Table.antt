@@ -1,0 +1,40 @@
+-- A table of clauses, lent as two columns of sets.
+use mathlib.Core.Bool.{Bool, true, _&&_}
+use mathlib.Core.List.{List, [], _∷_, _++_}
+use mathlib.Core.Path.{_≡_}
+use Prim.Native.Nat.{ℕ, zero, suc, _+_, _≤_, _<_}
+use Rattle.atoms.specs.Sets.{bitAt}
+use Rattle.atoms.specs.Words.{rowOf}
+use Rattle.ipl.specs.Clause.{Flat, satisfies}
+
+-- Clause k.
+abbrev pub clauseAt : List ℕ → List ℕ → ℕ → Flat
+clauseAt left right k = record { left = rowOf left k; right = rowOf right k }
+
+-- The first `count` clauses.
+unfoldable pub clauses : List ℕ → List ℕ → ℕ → List Flat
+clauses left right zero = []
+clauses left right (suc k) = clauses left right k ++ (clauseAt left right k ∷ [])
+
+-- Each of them is true at m, as a test.
+unfoldable pub allHold : List ℕ → List ℕ → ℕ → ℕ → Bool
+allHold left right m zero = true
+allHold left right m (suc k) = allHold left right m k && satisfies m (clauseAt left right k)
+
+-- Each atom of a is one of b; no atom is in both; some atom is in both: bit by bit, so that `omega` can be used.
+abbrev pub Within : ℕ → ℕ → Type 0
+Within a b = (i : ℕ) → bitAt a i ≤ bitAt b i
+
+abbrev pub Apart : ℕ → ℕ → Type 0
+Apart a b = (i : ℕ) → bitAt a i + bitAt b i ≤ 1
+
+abbrev pub Meets : ℕ → ℕ → Type 0
+Meets a b = (i : ℕ) × (bitAt a i ≡ 1) × (bitAt b i ≡ 1)
+
+-- At m: if all of l hold, one of r holds.
+abbrev pub Holds : ℕ → ℕ → ℕ → Type 0
+Holds l r m = Within l m → Meets r m
+
+-- Each of the first `count` clauses.
+abbrev pub AllHold : List ℕ → List ℕ → ℕ → ℕ → Type 0
+AllHold left right count m = (k : ℕ) → k < count → Holds (rowOf left k) (rowOf right k) m

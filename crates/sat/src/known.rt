@@ -1,0 +1,69 @@
+// Partial knowledge of a model, with one atom more or less.
+use super::Partial;
+use atoms::AtomSet;
+ghost use mathlib.Core.Path.{_≡_};
+ghost use mathlib.Core.Bool.{_&&_};
+ghost use lib.Dec.{eqb};
+ghost use Rattle.atoms.specs.Sets.{union, minus};
+ghost use Rattle.atoms.specs.Words.{num};
+ghost use Rattle.sat.specs.Knowledge.{PartialIs, samePartial};
+
+pub fn nothing() -> Partial
+    ensures { λ r. ⌜ PartialIs r 0 0 ⌝ }
+{
+    Partial {
+        has: AtomSet::EMPTY,
+        lacks: AtomSet::EMPTY,
+    }
+}
+
+pub fn having(p: Partial, x: AtomSet) -> Partial
+    ensures { λ r. ⌜ PartialIs r (union (num (p .has)) (num x)) (num (p .lacks)) ⌝ }
+{
+    let has = p.has;
+    let lacks = p.lacks;
+    Partial {
+        has: has.join(x),
+        lacks,
+    }
+}
+
+pub fn lacking(p: Partial, x: AtomSet) -> Partial
+    ensures { λ r. ⌜ PartialIs r (num (p .has)) (union (num (p .lacks)) (num x)) ⌝ }
+{
+    let has = p.has;
+    let lacks = p.lacks;
+    Partial {
+        has,
+        lacks: lacks.join(x),
+    }
+}
+
+pub fn forgetting(p: Partial, x: AtomSet) -> Partial
+    ensures { λ r. ⌜ PartialIs r (minus (num (p .has)) (num x)) (minus (num (p .lacks)) (num x)) ⌝ }
+{
+    let has = p.has;
+    let lacks = p.lacks;
+    Partial {
+        has: has.without(x),
+        lacks: lacks.without(x),
+    }
+}
+
+pub fn both(p: Partial, q: Partial) -> Partial
+    ensures { λ r. ⌜ PartialIs r (union (num (p .has)) (num (q .has))) (union (num (p .lacks)) (num (q .lacks))) ⌝ }
+{
+    having(lacking(p, q.lacks), q.has)
+}
+
+pub fn same(p: Partial, q: Partial) -> bool
+    ensures { λ r. ⌜ r ≡ samePartial p q ⌝ }
+{
+    let has = p.has;
+    if has.same(q.has) {
+        let lacks = p.lacks;
+        lacks.same(q.lacks)
+    } else {
+        false
+    }
+}
