@@ -1,4 +1,5 @@
-// The search for the smallest model: propagate, then decide the highest open atom, false first.
+// The search for the smallest model: propagate, then decide the highest open atom, false first. `ask` meets the `requires` of
+// `least` at the start; the functions here meet each other's.
 use super::Partial;
 use super::known;
 use super::propagation;
