@@ -1,17 +1,19 @@
 -- Laws of the tests and statements over lists.
 use mathlib.Core.Bool.{Bool, true, false, cond, _&&_}
-use mathlib.Core.List.{List, [], _∷_, _++_, map}
-use mathlib.Core.Logic.{inl, inr}
-use mathlib.Core.Path.{_≡_, refl, sym, ap, subst}
-use Prim.Native.Nat.{ℕ, zero, suc, _≤_, _<_, zero-le, suc-le-suc}
-use native.Mathlib.Nat.{not-suc-le-zero, le-of-suc-le-suc}
+use mathlib.Core.List.{List, [], _∷_, _++_, map, append-nil, append-assoc}
+use mathlib.Core.Logic.{inl, inr, _↔_}
+use mathlib.Core.Path.{_≡_, refl, sym, ap, ap₂, _∙_, subst}
+use Prim.Native.Nat.{ℕ, zero, suc, _+_, _≤_, _<_, zero-le, suc-le-suc}
+use native.Mathlib.Decide.{decLt}
+use native.Mathlib.Nat.{not-suc-le-zero, le-of-suc-le-suc, add-zero, add-suc}
 use native.Mathlib.Omega.{arith}
 use lib.Arith.{lt-of-le-ne}
 use lib.Dec.{T, eqb}
-use lib.ListN.{length, getD}
+use lib.ListN.{length, getD, length-append, List·getD-append}
+use lib.Seq.{getD-append-seam}
 use borrow.Author.Tests.{eqb-true, eqb-false}
 use Rattle.atoms.proofs.Truth.{T-left, T-right, T-and, T-or, T-inl, T-inr}
-use Rattle.ipl.specs.Lists.{all, any, All, Distinct}
+use Rattle.ipl.specs.Lists.{all, any, tabulate, All, Distinct}
 
 -- ---- every element
 
@@ -106,6 +108,47 @@ any-with p Q C (x ∷ l) t h f = elim (T-or (p x) (any p l) t) [ inl s ↦ f x s
 pub map-snoc : {A B : Type 0} (f : A → B) (l : List A) (x : A) → map f (l ++ (x ∷ [])) ≡ map f l ++ (f x ∷ [])
 map-snoc f [] x = refl
 map-snoc f (y ∷ l) x = ap (λ r. f y ∷ r) (map-snoc f l x)
+
+-- ---- tables
+
+pub tabulate-length : {A : Type 0} (f : ℕ → A) (n : ℕ) → length (tabulate f n) ≡ n
+unfolding tabulate
+tabulate-length f zero = refl
+tabulate-length f (suc n) = omega (arith, tabulate-length f n, length-append (tabulate f n) (f n ∷ []))
+
+pub tabulate-same : {A : Type 0} (f g : ℕ → A) (n : ℕ) → ((i : ℕ) → i < n → f i ≡ g i) → tabulate f n ≡ tabulate g n
+unfolding tabulate
+tabulate-same f g zero h = refl
+tabulate-same f g (suc n) h = ap₂ (λ l x. l ++ (x ∷ [])) (tabulate-same f g n (λ i k. h i (omega arith))) (h n (omega arith))
+
+pub All-tabulate : {A : Type 0} (P : A → Type 0) (f : ℕ → A) (n : ℕ) → All P (tabulate f n) ↔ ((i : ℕ) → i < n → P (f i))
+unfolding tabulate
+All-tabulate P f zero = (λ h i l. absurd (not-suc-le-zero l), λ h. tt)
+All-tabulate P f (suc n) =
+    (λ h i l. elim (decLt i n) [
+        yes k ↦ All-tabulate P f n .0 (All-left P (tabulate f n) (f n ∷ []) h) i k
+      | no k ↦ subst (λ (j : ℕ). P (f j)) (omega arith) (All-right P (tabulate f n) (f n ∷ []) h .0) ]
+    , λ h. All-append P (tabulate f n) (f n ∷ []) (All-tabulate P f n .1 (λ i l. h i (omega arith))) (h n (omega arith), tt))
+
+pub tabulate-at : {A : Type 0} (f : ℕ → A) (d : A) (n i : ℕ) → i < n → getD (tabulate f n) i d ≡ f i
+unfolding tabulate
+tabulate-at f d zero i l = absurd (not-suc-le-zero l)
+tabulate-at f d (suc n) i l = elim (decLt i n) [
+    yes k ↦ List·getD-append (tabulate f n) (f n ∷ []) d i (omega (arith, tabulate-length f n)) ∙ tabulate-at f d n i k
+  | no k ↦
+      let e : i ≡ n = omega arith in
+      rw e (subst (λ (j : ℕ). getD (tabulate f n ++ (f n ∷ [])) j d ≡ f n) (tabulate-length f n) (getD-append-seam (tabulate f n) (f n) [] d)) ]
+
+pub map-tabulate : {A B : Type 0} (h : A → B) (f : ℕ → A) (n : ℕ) → map h (tabulate f n) ≡ tabulate (λ i. h (f i)) n
+unfolding tabulate
+map-tabulate h f zero = refl
+map-tabulate h f (suc n) = map-snoc h (tabulate f n) (f n) ∙ ap (λ l. l ++ (h (f n) ∷ [])) (map-tabulate h f n)
+
+pub tabulate-append : {A : Type 0} (f : ℕ → A) (m n : ℕ) → tabulate f (m + n) ≡ tabulate f m ++ tabulate (λ i. f (m + i)) n
+unfolding tabulate
+tabulate-append f m zero = rw (add-zero m) (sym (append-nil (tabulate f m)))
+tabulate-append f m (suc n) =
+    rw (add-suc m n) (ap (λ l. l ++ (f (m + n) ∷ [])) (tabulate-append f m n) ∙ append-assoc (tabulate f m) (tabulate (λ i. f (m + i)) n) (f (m + n) ∷ []))
 
 -- ---- no two equal
 

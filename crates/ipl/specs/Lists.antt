@@ -1,6 +1,7 @@
 -- Tests and statements over the elements of a list.
 use mathlib.Core.Bool.{Bool, true, false, _&&_, _||_}
-use mathlib.Core.List.{List, [], _∷_}
+use mathlib.Core.List.{List, [], _∷_, _++_}
+use Prim.Native.Nat.{ℕ, zero, suc}
 use mathlib.Core.Path.{_≡_}
 
 -- Every element passes the test; some element does.
@@ -11,6 +12,11 @@ all p (x ∷ xs) = p x && all p xs
 unfoldable pub any {ℓ} : {A : Type ℓ} → (A → Bool) → List A → Bool
 any p [] = false
 any p (x ∷ xs) = p x || any p xs
+
+-- f 0, f 1, up to before f n.
+unfoldable pub tabulate {ℓ} : {A : Type ℓ} → (ℕ → A) → ℕ → List A
+tabulate f zero = []
+tabulate f (suc n) = tabulate f n ++ (f n ∷ [])
 
 -- P holds of every element.
 abbrev pub All : {A : Type 0} → (A → Type 0) → List A → Type 0

@@ -1,6 +1,6 @@
 -- Laws of tables of clauses, and of the relations between sets bit by bit.
 use mathlib.Core.Bool.{Bool, true, false, not, _||_}
-use mathlib.Core.List.{List, [], _∷_}
+use mathlib.Core.List.{List}
 use mathlib.Core.Logic.{_↔_, inl, inr}
 use mathlib.Core.Path.{_≡_, refl, ap, _∙_, subst}
 use Prim.Native.Nat.{ℕ, zero, suc, _+_, _-_, _<_, max}
@@ -16,7 +16,7 @@ use Rattle.atoms.proofs.Bits.{bit-le, bit-or, bit-minus}
 use Rattle.atoms.proofs.Members.{has-bit, bit-has, within-bits, bits-within, has-meets, meets-has}
 use Rattle.ipl.specs.Clause.{Flat, satisfies}
 use Rattle.ipl.specs.Lists.{All}
-use Rattle.ipl.proofs.Lists.{All-append, All-left, All-right}
+use Rattle.ipl.proofs.Lists.{All-tabulate}
 use Rattle.sat.specs.Table.{clauseAt, clauses, allHold, Apart, Meets, Holds, AllHold}
 
 -- ---- the operations, by a result's equation
@@ -100,15 +100,7 @@ module _ (left right : List ℕ) where
 
   pub all-hold-clauses : (m count : ℕ) → AllHold left right count m ↔ All (λ f. T (satisfies m f)) (clauses left right count)
   unfolding clauses
-  all-hold-clauses m zero = (λ h. tt, λ h k l. absurd (not-suc-le-zero l))
-  all-hold-clauses m (suc count) =
-      let P : Flat → Type 0 = λ f. T (satisfies m f) in
-      let ih = all-hold-clauses m count in (
-        λ h. All-append P (clauses left right count) (clauseAt left right count ∷ []) (ih .0 (λ k l. h k (omega arith)))
-            (holds-satisfies (rowOf left count) (rowOf right count) m (h count (omega arith)), tt),
-        λ h k l. elim (decLe (suc k) count) [
-          | yes w ↦ ih .1 (All-left P (clauses left right count) (clauseAt left right count ∷ []) h) k w
-          | no w ↦ subst (λ (j : ℕ). Holds (rowOf left j) (rowOf right j) m) (omega arith)
-              (satisfies-holds (rowOf left count) (rowOf right count) m (All-right P (clauses left right count) (clauseAt left right count ∷ []) h .0))
-        ],
-      )
+  all-hold-clauses m count =
+      let each = All-tabulate (λ f. T (satisfies m f)) (clauseAt left right) count in
+      (λ h. each .1 (λ k l. holds-satisfies (rowOf left k) (rowOf right k) m (h k l))
+      , λ h k l. satisfies-holds (rowOf left k) (rowOf right k) m (each .0 h k l))

@@ -1,11 +1,12 @@
 -- A table of clauses, lent as two columns of sets.
 use mathlib.Core.Bool.{Bool, true, _&&_}
-use mathlib.Core.List.{List, [], _∷_, _++_}
+use mathlib.Core.List.{List}
 use mathlib.Core.Path.{_≡_}
 use Prim.Native.Nat.{ℕ, zero, suc, _+_, _≤_, _<_}
 use Rattle.atoms.specs.Sets.{bitAt}
 use Rattle.atoms.specs.Words.{rowOf}
 use Rattle.ipl.specs.Clause.{Flat, satisfies}
+use Rattle.ipl.specs.Lists.{tabulate}
 
 -- Clause k.
 abbrev pub clauseAt : List ℕ → List ℕ → ℕ → Flat
@@ -13,8 +14,7 @@ clauseAt left right k = record { left = rowOf left k; right = rowOf right k }
 
 -- The first `count` clauses.
 unfoldable pub clauses : List ℕ → List ℕ → ℕ → List Flat
-clauses left right zero = []
-clauses left right (suc k) = clauses left right k ++ (clauseAt left right k ∷ [])
+clauses left right count = tabulate (clauseAt left right) count
 
 -- Each of them is true at m, as a test.
 unfoldable pub allHold : List ℕ → List ℕ → ℕ → ℕ → Bool
