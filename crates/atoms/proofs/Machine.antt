@@ -11,7 +11,7 @@ use lib.Pow.{pow-pos, ones-lt, shl-exact}
 use lib.Seq.{getD-set-same, getD-set-other}
 use Rattle.atoms.specs.Sets.{bitAt, limit}
 use Rattle.atoms.proofs.Bits.{bit-ones, bit-past}
-use Rattle.atoms.specs.Words.{num, everyAtom, singleOrEmpty, below, HighestOrEmpty, rowOf, rowCount, RowSet}
+use Rattle.atoms.specs.Words.{num, everyAtom, singleOrEmpty, below, HighestOrEmpty, words, rowOf, rowCount, RowSet}
 
 -- ⊥ is atom number 255, past every atom.
 pub limit-small : limit ≤ 255
@@ -107,3 +107,8 @@ set-row t i x h =
 pub keep-row : (t : List ℕ) (i x : ℕ) → length t ≤ i → RowSet t i x t
 unfolding rowCount
 keep-row t i x h = record { size = refl; written = λ k. absurd (omega arith); others = λ j d. refl }
+
+-- A table of k rows' words has k rows.
+pub row-count : (t : List ℕ) (k : ℕ) → length t ≡ k * words → rowCount t ≡ k
+unfolding rowCount words
+row-count t k e = omega (arith, e)

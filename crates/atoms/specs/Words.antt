@@ -30,6 +30,10 @@ pub record HighestOrEmpty (s x : ℕ) : Type 0 where
   pub highest : 0 < s → Highest s x
   pub bounded : x < 2 ^ limit
 
+-- How many words a set takes in a table.
+unfoldable pub words : ℕ
+words = 1
+
 -- How many sets a table of words holds, and the set in row i: past the end, the empty set.
 unfoldable pub rowCount : List ℕ → ℕ
 rowCount table = length table

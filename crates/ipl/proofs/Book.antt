@@ -58,7 +58,7 @@ opened-reached n = record { well-formed = fresh (cond (countInRange n) n 1) (cou
 
 -- ---- a call that is not refused meets none of its refusals
 
-flat-unrefused : (k : Book) (f : Flat) → flatRefusal k f ≡ 0 → T (flatInRange (k .n) f) × (length (k .flats) < flatTable)
+pub flat-unrefused : (k : Book) (f : Flat) → flatRefusal k f ≡ 0 → T (flatInRange (k .n) f) × (length (k .flats) < flatTable)
 unfolding flatRefusal flatsFull
 flat-unrefused k f = go (flatInRange (k .n) f) (leb flatTable (length (k .flats))) refl
   where
@@ -67,12 +67,12 @@ flat-unrefused k f = go (flatInRange (k .n) f) (leb flatTable (length (k .flats)
     go true false e r = (tt, leb-false flatTable (length (k .flats)) e)
     go false b e r = absurd (omega arith)
 
-record ImplicationUnrefused (k : Book) (i : Implication) : Type 0 where
-  in-range : T (implicationInRange (k .n) i)
-  row : (eqb (i .b) bot ≡ true) ⊎ (length (k .flats) < flatTable)
-  room : length (k .implications) < implicationTable
+pub record ImplicationUnrefused (k : Book) (i : Implication) : Type 0 where
+  pub in-range : T (implicationInRange (k .n) i)
+  pub row : (eqb (i .b) bot ≡ true) ⊎ (length (k .flats) < flatTable)
+  pub room : length (k .implications) < implicationTable
 
-implication-unrefused : (k : Book) (i : Implication) → implicationRefusal k i ≡ 0 → ImplicationUnrefused k i
+pub implication-unrefused : (k : Book) (i : Implication) → implicationRefusal k i ≡ 0 → ImplicationUnrefused k i
 unfolding implicationRefusal flatsFull
 implication-unrefused k i =
     go (implicationInRange (k .n) i) refl (eqb (i .b) bot) refl (leb flatTable (length (k .flats))) refl (leb implicationTable (length (k .implications))) refl

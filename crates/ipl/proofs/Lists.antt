@@ -12,7 +12,8 @@ use lib.Dec.{T, eqb}
 use lib.ListN.{length, getD, length-append, List·getD-append}
 use lib.Seq.{getD-append-seam}
 use borrow.Author.Tests.{eqb-true, eqb-false}
-use Rattle.atoms.proofs.Truth.{T-left, T-right, T-and, T-or, T-inl, T-inr}
+use native.Mathlib.Numerals.{add-one}
+use Rattle.atoms.proofs.Truth.{T-left, T-right, T-and, T-or, T-inl, T-inr, T-iff, T-false, false-T}
 use Rattle.ipl.specs.Lists.{all, any, tabulate, All, Distinct}
 
 -- ---- every element
@@ -124,20 +125,50 @@ tabulate-same f g (suc n) h = ap₂ (λ l x. l ++ (x ∷ [])) (tabulate-same f g
 pub All-tabulate : {A : Type 0} (P : A → Type 0) (f : ℕ → A) (n : ℕ) → All P (tabulate f n) ↔ ((i : ℕ) → i < n → P (f i))
 unfolding tabulate
 All-tabulate P f zero = (λ h i l. absurd (not-suc-le-zero l), λ h. tt)
-All-tabulate P f (suc n) =
-    (λ h i l. elim (decLt i n) [
-        yes k ↦ All-tabulate P f n .0 (All-left P (tabulate f n) (f n ∷ []) h) i k
-      | no k ↦ subst (λ (j : ℕ). P (f j)) (omega arith) (All-right P (tabulate f n) (f n ∷ []) h .0) ]
-    , λ h. All-append P (tabulate f n) (f n ∷ []) (All-tabulate P f n .1 (λ i l. h i (omega arith))) (h n (omega arith), tt))
+All-tabulate P f (suc n) = (
+  λ h i l. elim (decLt i n) [
+    | yes k ↦ All-tabulate P f n .0 (All-left P (tabulate f n) (f n ∷ []) h) i k
+    | no k ↦ subst (λ (j : ℕ). P (f j)) (omega arith) (All-right P (tabulate f n) (f n ∷ []) h .0)
+  ],
+  λ h. All-append P (tabulate f n) (f n ∷ []) (All-tabulate P f n .1 (λ i l. h i (omega arith))) (h n (omega arith), tt),
+)
+
+-- A test over a table, one row after the other.
+pub all-next : {A : Type 0} (p : A → Bool) (f : ℕ → A) (i : ℕ) → all p (tabulate f i) ≡ true → p (f i) ≡ true → all p (tabulate f (i + 1)) ≡ true
+unfolding tabulate
+all-next p f i h e = rw (add-one i, all-snoc p (tabulate f i) (f i), h, e)
+
+pub all-fails : {A : Type 0} (p : A → Bool) (f : ℕ → A) (i n : ℕ) → i < n → p (f i) ≡ false → all p (tabulate f n) ≡ false
+all-fails p f i n l e =
+    T-false (all p (tabulate f n)) (λ t. false-T e (All-tabulate (λ x. T (p x)) f n .0 (all-All p (tabulate f n) t) i l))
+
+pub all-end : {A : Type 0} (p : A → Bool) (f : ℕ → A) (i n : ℕ) → i ≤ n → n ≤ i → all p (tabulate f i) ≡ true → true ≡ all p (tabulate f n)
+all-end p f i n h k e = sym (subst (λ (j : ℕ). all p (tabulate f j) ≡ true) (omega arith) e)
+
+-- Two tests of the rows are the test of both.
+pub all-both : {A B C : Type 0} (p : A → Bool) (q : B → Bool) (r : C → Bool) (f : ℕ → A) (g : ℕ → B) (h : ℕ → C) (n : ℕ)
+    → ((i : ℕ) → i < n → r (h i) ≡ p (f i) && q (g i)) → all r (tabulate h n) ≡ all p (tabulate f n) && all q (tabulate g n)
+all-both p q r f g h n e =
+    T-iff (all r (tabulate h n)) (all p (tabulate f n) && all q (tabulate g n))
+    (λ t. T-and (all p (tabulate f n)) (all q (tabulate g n))
+    (All-all p (tabulate f n) (All-tabulate (λ x. T (p x)) f n .1 (λ i l. T-left (p (f i)) (q (g i)) (subst T (e i l) (row t i l)))))
+    (All-all q (tabulate g n) (All-tabulate (λ x. T (q x)) g n .1 (λ i l. T-right (p (f i)) (q (g i)) (subst T (e i l) (row t i l))))))
+    (λ t. All-all r (tabulate h n) (All-tabulate (λ x. T (r x)) h n .1 (λ i l. subst T (sym (e i l)) (T-and (p (f i)) (q (g i))
+    (All-tabulate (λ x. T (p x)) f n .0 (all-All p (tabulate f n) (T-left (all p (tabulate f n)) (all q (tabulate g n)) t)) i l)
+    (All-tabulate (λ x. T (q x)) g n .0 (all-All q (tabulate g n) (T-right (all p (tabulate f n)) (all q (tabulate g n)) t)) i l)))))
+  where
+    row : T (all r (tabulate h n)) → (i : ℕ) → i < n → T (r (h i))
+    row t = All-tabulate (λ x. T (r x)) h n .0 (all-All r (tabulate h n) t)
 
 pub tabulate-at : {A : Type 0} (f : ℕ → A) (d : A) (n i : ℕ) → i < n → getD (tabulate f n) i d ≡ f i
 unfolding tabulate
 tabulate-at f d zero i l = absurd (not-suc-le-zero l)
 tabulate-at f d (suc n) i l = elim (decLt i n) [
-    yes k ↦ List·getD-append (tabulate f n) (f n ∷ []) d i (omega (arith, tabulate-length f n)) ∙ tabulate-at f d n i k
+  | yes k ↦ List·getD-append (tabulate f n) (f n ∷ []) d i (omega (arith, tabulate-length f n)) ∙ tabulate-at f d n i k
   | no k ↦
       let e : i ≡ n = omega arith in
-      rw e (subst (λ (j : ℕ). getD (tabulate f n ++ (f n ∷ [])) j d ≡ f n) (tabulate-length f n) (getD-append-seam (tabulate f n) (f n) [] d)) ]
+      rw e (subst (λ (j : ℕ). getD (tabulate f n ++ (f n ∷ [])) j d ≡ f n) (tabulate-length f n) (getD-append-seam (tabulate f n) (f n) [] d))
+]
 
 pub map-tabulate : {A B : Type 0} (h : A → B) (f : ℕ → A) (n : ℕ) → map h (tabulate f n) ≡ tabulate (λ i. h (f i)) n
 unfolding tabulate

@@ -14,7 +14,7 @@ use Rattle.atoms.specs.Words.{rowOf}
 use Rattle.atoms.proofs.Truth.{T-left, T-right, T-and, T-or, T-false, true-T, false-T}
 use Rattle.atoms.proofs.Bits.{bit-le, bit-or, bit-minus}
 use Rattle.atoms.proofs.Members.{has-bit, bit-has, within-bits, bits-within, has-meets, meets-has}
-use Rattle.ipl.specs.Clause.{Flat, satisfies}
+use Rattle.ipl.specs.Clause.{satisfies}
 use Rattle.ipl.specs.Lists.{All}
 use Rattle.ipl.proofs.Lists.{All-tabulate}
 use Rattle.sat.specs.Table.{clauseAt, clauses, allHold, Apart, Meets, Holds, AllHold}
@@ -101,6 +101,7 @@ module _ (left right : List ℕ) where
   pub all-hold-clauses : (m count : ℕ) → AllHold left right count m ↔ All (λ f. T (satisfies m f)) (clauses left right count)
   unfolding clauses
   all-hold-clauses m count =
-      let each = All-tabulate (λ f. T (satisfies m f)) (clauseAt left right) count in
-      (λ h. each .1 (λ k l. holds-satisfies (rowOf left k) (rowOf right k) m (h k l))
-      , λ h k l. satisfies-holds (rowOf left k) (rowOf right k) m (each .0 h k l))
+      let each = All-tabulate (λ f. T (satisfies m f)) (clauseAt left right) count in (
+        λ h. each .1 (λ k l. holds-satisfies (rowOf left k) (rowOf right k) m (h k l)),
+        λ h k l. satisfies-holds (rowOf left k) (rowOf right k) m (each .0 h k l),
+      )

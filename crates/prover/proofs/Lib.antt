@@ -1,0 +1,4 @@
+-- Laws of the crate `prover`.
+pub mod Ranges
+pub mod Rows
+pub mod Refusals

@@ -1,0 +1,94 @@
+-- Laws of the refusals' numbers: what a call that meets none may rely on.
+use mathlib.Core.Bool.{Bool, true, false, cond, _&&_}
+use mathlib.Core.List.{List, [], _∷_, _++_, append-nil}
+use mathlib.Core.Logic.{_⊎_, inl, inr}
+use mathlib.Core.Path.{_≡_, refl, sym, ap, _∙_}
+use Prim.Native.Nat.{ℕ, _≤_, _<_}
+use native.Mathlib.Omega.{arith}
+use lib.Dec.{eqb, leb, leb→le}
+use lib.ListN.{length}
+use borrow.Author.Tests.{eqb-true, eq-eqb, ne-eqb}
+use Rattle.atoms.specs.Sets.{limit}
+use Rattle.atoms.specs.Words.{singleOrEmpty}
+use Rattle.atoms.proofs.Machine.{limit-small, single-bits, single-none}
+use Rattle.atoms.proofs.Truth.{T-left, T-right, true-T}
+use Rattle.ipl.specs.Clause.{bot, one, Flat, Implication, closing, closings}
+use Rattle.ipl.specs.Range.{flatTable, implicationTable}
+use Rattle.ipl.specs.Book.{countInRange, flatRefusal, implicationRefusal, flatsFull}
+use Rattle.ipl.proofs.Lists.{tabulate-length}
+use Rattle.ipl.proofs.Range.{AtomOrBot, implication-below}
+use Rattle.ipl.proofs.Book.{flat-unrefused, ImplicationUnrefused, implication-unrefused}
+use Rattle.sat.specs.Table.{clauseAt, clauses}
+use Rattle.prover.specs.State.{implicationRow, flatsOf, implicationsOf, book}
+use Rattle.prover.specs.InRange.{flatsInRange, implicationsInRange, stepsInRange, worldsInRange, heldInRange, inRange}
+use Rattle.prover.specs.Calls.{number, flatNumber, implicationNumber, ClosingFits}
+use Rattle.prover.specs.declared.Session.{Session}
+
+pub clauses-length : (left right : List ℕ) (count : ℕ) → length (clauses left right count) ≡ count
+unfolding clauses
+clauses-length left right count = tabulate-length (clauseAt left right) count
+
+-- A number that is 0 is that of a session in range.
+pub number-zero : (s : Session) (k : ℕ) → number s k ≡ 0 → (inRange s ≡ true) × (k ≡ 0)
+number-zero s k = go (inRange s)
+  where
+    go : (b : Bool) → cond b k 5 ≡ 0 → (b ≡ true) × (k ≡ 0)
+    go true e = (refl, e)
+    go false e = absurd (omega arith)
+
+pub few-atoms : (s : Session) → inRange s ≡ true → s .n ≤ limit
+unfolding inRange countInRange
+few-atoms s e =
+    leb→le (s .n) limit (T-right (leb 1 (s .n)) (leb (s .n) limit)
+    (T-left (leb 1 (s .n) && leb (s .n) limit)
+    (flatsInRange (s .n) (s .flats)
+    && (implicationsInRange (s .n) (s .implications)
+    && (stepsInRange (s .n) (s .implications .count) (s .steps) && (worldsInRange (s .n) (s .worlds) && heldInRange (s .n) (s .held)))))
+    (true-T e)))
+
+pub flat-room : (s : Session) (f : Flat) → flatNumber s f ≡ 0 → s .flats .count < flatTable
+flat-room s f e =
+    omega (arith, flat-unrefused (book s) f (number-zero s (flatRefusal (book s) f) e .1) .1, clauses-length (s .flats .left) (s .flats .right) (s .flats .count))
+
+-- An atom or ⊥, as the code makes its set.
+single-one : (n x : ℕ) → n ≤ limit → AtomOrBot n x → singleOrEmpty x ≡ one x
+unfolding one
+single-one n x h (inl l) = single-bits x (omega arith) ∙ rw (ne-eqb x bot (λ e. omega (arith, limit-small)))
+single-one n x h (inr e) = rw e (single-none bot limit-small)
+
+module _ (s : Session) (i : Implication) (e : implicationNumber s i ≡ 0) where
+  unrefused : ImplicationUnrefused (book s) i
+  unrefused = implication-unrefused (book s) i (number-zero s (implicationRefusal (book s) i) e .1)
+
+  pub closing-fits : ClosingFits (s .flats) (i .b) (i .c)
+  closing-fits =
+      let o = implication-below (s .n) i (unrefused .in-range) in
+      let h = few-atoms s (number-zero s (implicationRefusal (book s) i) e .0) in
+      record { row = room (unrefused .row); b-atom = single-one (s .n) (i .b) h (o .b); c-atom = single-one (s .n) (i .c) h (o .c) }
+    where
+      room : (eqb (i .b) bot ≡ true) ⊎ (length (flatsOf (s .flats)) < flatTable) → (i .b ≡ bot → ⊥) → s .flats .count < flatTable
+      room (inl t) f = absurd (f (eqb-true (i .b) bot t))
+      room (inr l) f = omega (arith, clauses-length (s .flats .left) (s .flats .right) (s .flats .count))
+
+  pub implication-room : s .implications .count < implicationTable
+  implication-room = omega (arith, unrefused .room, tabulate-length (implicationRow (s .implications)) (s .implications .count))
+
+-- ---- the closing clause
+
+pub closing-none : (F : List Flat) (a b c : ℕ) → b ≡ bot → F ≡ F ++ closings (record { a = a; b = b; c = c })
+unfolding closings
+closing-none F a b c e = rw (eq-eqb b bot e) (sym (append-nil F))
+
+pub closing-some : (F : List Flat) (a b c l r : ℕ) → (b ≡ bot → ⊥) → l ≡ one b → r ≡ one c
+    → F ++ (record { left = l; right = r } ∷ []) ≡ F ++ closings (record { a = a; b = b; c = c })
+unfolding closings closing
+closing-some F a b c l r d el er = rw (ne-eqb b bot d, el, er)
+
+-- ---- the tables' tests by their counts
+
+pub flats-full : (s : Session) → flatsFull (book s) ≡ leb flatTable (s .flats .count)
+unfolding flatsFull
+flats-full s = ap (leb flatTable) (clauses-length (s .flats .left) (s .flats .right) (s .flats .count))
+
+pub implications-length : (s : Session) → length (implicationsOf (s .implications)) ≡ s .implications .count
+implications-length s = tabulate-length (implicationRow (s .implications)) (s .implications .count)

@@ -1,0 +1,56 @@
+-- Laws of a table with one row more.
+use mathlib.Core.List.{List, [], _∷_, _++_}
+use mathlib.Core.Path.{_≡_, ap₂}
+use Prim.Native.Nat.{ℕ, _+_, _<_}
+use native.Mathlib.Numerals.{add-one}
+use native.Mathlib.Omega.{arith}
+use lib.ListN.{length, set}
+use lib.Seq.{getD-set-same, getD-set-other}
+use Rattle.atoms.specs.Words.{words, rowCount, RowSet}
+use Rattle.atoms.proofs.Machine.{row-count}
+use Rattle.ipl.specs.Lists.{tabulate}
+use Rattle.ipl.specs.Clause.{Implication}
+use Rattle.ipl.specs.Range.{flatTable}
+use Rattle.ipl.proofs.Lists.{tabulate-same}
+use Rattle.sat.specs.Table.{clauseAt, clauses}
+use Rattle.prover.specs.State.{byteAt, implicationRow, implicationsOf}
+use Rattle.prover.specs.declared.Implications.{Implications}
+
+-- A table whose rows before k stayed, with row k.
+pub tabulate-more : {A : Type 0} (f g : ℕ → A) (x : A) (k : ℕ) → ((i : ℕ) → i < k → g i ≡ f i) → g k ≡ x → tabulate g (k + 1) ≡ tabulate f k ++ (x ∷ [])
+unfolding tabulate
+tabulate-more f g x k h e = rw (add-one k) (ap₂ (λ l y. l ++ (y ∷ [])) (tabulate-same g f k h) e)
+
+pub clauses-more : (left right left2 right2 : List ℕ) (k l r : ℕ) → RowSet left k l left2 → RowSet right k r right2 → k < rowCount left → k < rowCount right
+    → clauses left2 right2 (k + 1) ≡ clauses left right k ++ (record { left = l; right = r } ∷ [])
+unfolding clauses
+clauses-more left right left2 right2 k l r hl hr kl kr =
+    tabulate-more (clauseAt left right) (clauseAt left2 right2) (record { left = l; right = r }) k
+    (λ i h. ap₂ (λ (x y : ℕ). record { left = x; right = y }) (hl .others i (λ e. omega arith)) (hr .others i (λ e. omega arith)))
+    (ap₂ (λ (x y : ℕ). record { left = x; right = y }) (hl .written kl) (hr .written kr))
+
+-- A column of bytes with one byte stored.
+pub byte-other : (t : List ℕ) (k x i : ℕ) → i < k → byteAt (set t k x) i ≡ byteAt t i
+byte-other t k x i h = getD-set-other t k i x 0 (λ e. omega arith)
+
+pub byte-same : (t : List ℕ) (k x : ℕ) → k < length t → byteAt (set t k x) k ≡ x
+byte-same t k x h = getD-set-same t k x 0 h
+
+-- The tables' sizes, by their words.
+pub flat-room : (t : List ℕ) (k : ℕ) → length t ≡ 512 → k < flatTable → k < rowCount t
+unfolding words
+flat-room t k l h = omega (arith, row-count t 512 l)
+
+pub implications-more : (t : Implications) (a b c : ℕ) → t .count < length (t .a) → t .count < length (t .b) → t .count < length (t .c)
+    → implicationsOf (record { count = t .count + 1; a = set (t .a) (t .count) a; b = set (t .b) (t .count) b; c = set (t .c) (t .count) c })
+    ≡ implicationsOf t ++ (record { a = a; b = b; c = c } ∷ [])
+implications-more t a b c la lb lc =
+    tabulate-more (implicationRow t) (implicationRow (record { count = t .count + 1; a = set (t .a) k a; b = set (t .b) k b; c = set (t .c) k c })) (record { a = a; b = b; c = c }) k
+    (λ i h. row (byte-other (t .a) k a i h) (byte-other (t .b) k b i h) (byte-other (t .c) k c i h))
+    (row (byte-same (t .a) k a la) (byte-same (t .b) k b lb) (byte-same (t .c) k c lc))
+  where
+    k : ℕ
+    k = t .count
+
+    row : {a b c a2 b2 c2 : ℕ} → a ≡ a2 → b ≡ b2 → c ≡ c2 → _≡_ {A = Implication} (record { a = a; b = b; c = c }) (record { a = a2; b = b2; c = c2 })
+    row p q r = λ i. record { a = p i; b = q i; c = r i }

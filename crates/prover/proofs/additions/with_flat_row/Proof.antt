@@ -1,0 +1,41 @@
+-- A row more at the end of both columns.
+use mathlib.Core.Path.{_≡_}
+use lib.ListN.{length}
+use Rattle.prover.proofs.Rows.{clauses-more, flat-room}
+use borrow.Author.Needs.{needs}
+use native.Mathlib.Omega.{arith}
+use Rattle.prover.proofs.additions.with_flat_row.Statement.{statement}
+use Rattle.prover.proofs.additions.with_flat_row.Tie as tie
+
+slice-aggregate-set-row : tie.Need-slice-aggregate-set-row
+slice-aggregate-set-row c = search needs
+
+set-row-requires : tie.Need-set-row-requires
+set-row-requires c κs = search needs
+
+slice-aggregate-set-row-2 : tie.Need-slice-aggregate-set-row-2
+slice-aggregate-set-row-2 c = search needs
+
+set-row-requires-2 : tie.Need-set-row-requires-2
+set-row-requires-2 c κs = search needs
+
+add-t12 : tie.Need-add-t12
+add-t12 c = omega arith
+
+returns : tie.Need-returns
+returns c =
+    let s = c .before .before .before .before .before .before .before .before in
+    let l : length (s .args .t .left) ≡ 512 = search needs in
+    let r : length (s .args .t .right) ≡ 512 = search needs in
+    clauses-more (s .args .t .left) (s .args .t .right) _ _ (s .args .t .count) _ _ (c .before .before .before .before .set-row .ensures) (c .before .set-row2 .ensures) (flat-room _ _ l (s .pre)) (flat-room _ _ r (s .pre))
+
+pub with-flat-row-spec : {M : Type 1} → statement M
+with-flat-row-spec =
+    tie.close
+    (tie.spec
+    slice-aggregate-set-row
+    set-row-requires
+    slice-aggregate-set-row-2
+    set-row-requires-2
+    add-t12
+    returns)

@@ -1,0 +1,131 @@
+// A session with one clause more, and the empty session. An addition drops the verdict held.
+use super::Flats;
+use super::Held;
+use super::Implications;
+use super::Session;
+use super::Steps;
+use super::Worlds;
+use atoms::AtomSet;
+ghost use mathlib.Core.Path.{_≡_};
+ghost use mathlib.Core.List.{[], _∷_, _++_};
+ghost use Prim.Native.Nat.{ℕ, _<_};
+ghost use Rattle.ipl.specs.Clause.{closings};
+ghost use Rattle.ipl.specs.Range.{flatTable, implicationTable};
+ghost use Rattle.ipl.specs.Book.{addFlat, addImplication, taken};
+ghost use Rattle.prover.specs.State.{flatsOf, implicationsOf, stepsOf, book};
+ghost use Rattle.prover.specs.Calls.{flatOf, flatNumber, implicationNumber, NothingHeld, ClosingFits};
+
+// The empty session of n atoms.
+pub fn empty(n: u8) -> Session
+    ensures { λ r. ⌜ (book r ≡ record { n = n; flats = []; implications = []; steps = [] }) × NothingHeld 0 r ⌝ }
+{
+    let flats = Flats {
+        count: 0,
+        left: [0; 512 * atoms::WORDS],
+        right: [0; 512 * atoms::WORDS],
+    };
+    let implications = Implications {
+        count: 0,
+        a: [0; 128],
+        b: [0; 128],
+        c: [0; 128],
+    };
+    let steps = Steps {
+        count: 0,
+        numbers: [0; 512],
+        assumed: [0; 512 * atoms::WORDS],
+    };
+    let worlds = Worlds {
+        count: 0,
+        sets: [0; 256 * atoms::WORDS],
+    };
+    Session {
+        n,
+        flats,
+        implications,
+        steps,
+        worlds,
+        total: 0,
+        held: Held::Nothing,
+    }
+}
+
+// One row more at the end. The caller has seen that there is room.
+fn with_flat_row(t: Flats, l: AtomSet, r: AtomSet) -> Flats
+    requires { ⌜ t .count < flatTable ⌝ }
+    ensures { λ u. ⌜ flatsOf u ≡ flatsOf t ++ (flatOf l r ∷ []) ⌝ }
+{
+    let at = t.count;
+    let mut left = t.left;
+    let mut right = t.right;
+    atoms::set_row(&mut left, at, l);
+    atoms::set_row(&mut right, at, r);
+    Flats {
+        count: at + 1,
+        left,
+        right,
+    }
+}
+
+fn with_implication_row(t: Implications, a: u8, b: u8, c: u8) -> Implications
+    requires { ⌜ t .count < implicationTable ⌝ }
+    ensures { λ u. ⌜ implicationsOf u ≡ implicationsOf t ++ (record { a = a; b = b; c = c } ∷ []) ⌝ }
+{
+    let mut next = t;
+    let at = t.count;
+    next.a[at] = a;
+    next.b[at] = b;
+    next.c[at] = c;
+    next.count = at + 1;
+    next
+}
+
+// The flat clauses with the closing clause of an implication; with b = ⊥ there is none. b and c are atoms or ⊥.
+fn with_closing(t: Flats, b: u8, c: u8) -> Flats
+    requires { ⌜ ClosingFits t b c ⌝ }
+    ensures { λ u. ⌜ ((a : ℕ) → flatsOf u ≡ flatsOf t ++ closings (record { a = a; b = b; c = c })) ⌝ }
+{
+    if b == 255 {
+        t
+    } else {
+        with_flat_row(t, AtomSet::single(b), AtomSet::single(c))
+    }
+}
+
+// The session with other clauses, and no verdict.
+fn with_clauses(s: Session, flats: Flats, implications: Implications) -> Session
+    ensures { λ r. ⌜ (book r ≡ record { n = s .n; flats = flatsOf flats; implications = implicationsOf implications; steps = stepsOf (s .steps) }) × NothingHeld (s .total) r ⌝ }
+{
+    let mut worlds = s.worlds;
+    worlds.count = 0;
+    let steps = s.steps;
+    Session {
+        n: s.n,
+        flats,
+        implications,
+        steps,
+        worlds,
+        total: s.total,
+        held: Held::Nothing,
+    }
+}
+
+// One flat clause more. The caller has seen that it is not refused.
+pub fn with_flat(s: Session, left: AtomSet, right: AtomSet) -> Session
+    requires { ⌜ flatNumber s (flatOf left right) ≡ 0 ⌝ }
+    ensures { λ r. ⌜ (book r ≡ taken (book s) (addFlat (flatOf left right))) × NothingHeld (s .total) r ⌝ }
+{
+    let flats = with_flat_row(s.flats, left, right);
+    let implications = s.implications;
+    with_clauses(s, flats, implications)
+}
+
+// One implication more, with its closing clause. The caller has seen that it is not refused.
+pub fn with_implication(s: Session, a: u8, b: u8, c: u8) -> Session
+    requires { ⌜ implicationNumber s (record { a = a; b = b; c = c }) ≡ 0 ⌝ }
+    ensures { λ r. ⌜ (book r ≡ taken (book s) (addImplication (record { a = a; b = b; c = c }))) × NothingHeld (s .total) r ⌝ }
+{
+    let flats = with_closing(s.flats, b, c);
+    let implications = with_implication_row(s.implications, a, b, c);
+    with_clauses(s, flats, implications)
+}

@@ -1,0 +1,108 @@
+// A session: it holds clauses, decides whether they force a goal, and keeps what it learned.
+use atoms::AtomSet;
+ghost use Rattle.prover.specs.Calls.{Opened, FlatAdded, ImplicationAdded};
+
+mod additions;
+mod range;
+
+pub struct Flats {
+    pub count: usize,
+    pub left: [u64; 512 * atoms::WORDS],
+    pub right: [u64; 512 * atoms::WORDS],
+}
+
+pub struct Implications {
+    pub count: usize,
+    pub a: [u8; 128],
+    pub b: [u8; 128],
+    pub c: [u8; 128],
+}
+
+// Learned steps: an implication's number and the set assumed.
+pub struct Steps {
+    pub count: usize,
+    pub numbers: [u8; 512],
+    pub assumed: [u64; 512 * atoms::WORDS],
+}
+
+pub struct Worlds {
+    pub count: usize,
+    pub sets: [u64; 256 * atoms::WORDS],
+}
+
+// The last verdict with its goal, until a clause is added.
+pub enum Held {
+    Nothing,
+    Valid(u8),
+    Refuted(u8),
+}
+
+// Unused rows of the tables are never looked at.
+pub struct Session {
+    pub n: u8,
+    pub flats: Flats,
+    pub implications: Implications,
+    pub steps: Steps,
+    pub worlds: Worlds,
+    pub total: u32,
+    pub held: Held,
+}
+
+// The number of a refusal, or 0; and the session that the caller goes on with.
+pub struct Changed {
+    pub refusal: u8,
+    pub session: Session,
+}
+
+// A session of n atoms. Refused 5: the empty session of one atom.
+pub fn open(n: u8) -> Changed
+    ensures { λ r. ⌜ Opened n r ⌝ }
+{
+    if range::count_in_range(n) {
+        Changed {
+            refusal: 0,
+            session: additions::empty(n),
+        }
+    } else {
+        Changed {
+            refusal: 5,
+            session: additions::empty(1),
+        }
+    }
+}
+
+// Adds a flat clause. Refused 5, 6, 7: the session as given.
+pub fn add_flat(s: Session, left: AtomSet, right: AtomSet) -> Changed
+    ensures { λ r. ⌜ FlatAdded s left right r ⌝ }
+{
+    let refusal = range::flat_refusal(s, left, right);
+    if refusal == 0 {
+        Changed {
+            refusal,
+            session: additions::with_flat(s, left, right),
+        }
+    } else {
+        Changed {
+            refusal,
+            session: s,
+        }
+    }
+}
+
+// Adds the implication (a → b) → c and its closing clause. Refused 5, 6, 7, 8: the session as given.
+pub fn add_implication(s: Session, a: u8, b: u8, c: u8) -> Changed
+    ensures { λ r. ⌜ ImplicationAdded s a b c r ⌝ }
+{
+    let refusal = range::implication_refusal(s, a, b, c);
+    if refusal == 0 {
+        Changed {
+            refusal,
+            session: additions::with_implication(s, a, b, c),
+        }
+    } else {
+        Changed {
+            refusal,
+            session: s,
+        }
+    }
+}
