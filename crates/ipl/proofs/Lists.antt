@@ -1,5 +1,5 @@
 -- Laws of the tests and statements over lists.
-use mathlib.Core.Bool.{Bool, true, false, cond, _&&_}
+use mathlib.Core.Bool.{Bool, true, false, cond, _&&_, _||_, or-false, or-assoc}
 use mathlib.Core.List.{List, [], _∷_, _++_, map, append-nil, append-assoc}
 use mathlib.Core.Logic.{inl, inr, _↔_}
 use mathlib.Core.Path.{_≡_, refl, sym, ap, ap₂, _∙_, subst}
@@ -13,7 +13,7 @@ use lib.ListN.{length, getD, length-append, List·getD-append}
 use lib.Seq.{getD-append-seam}
 use borrow.Author.Tests.{eqb-true, eqb-false}
 use native.Mathlib.Numerals.{add-one}
-use Rattle.atoms.proofs.Truth.{T-left, T-right, T-and, T-or, T-inl, T-inr, T-iff, T-false, false-T}
+use Rattle.atoms.proofs.Truth.{T-left, T-right, T-and, T-or, T-inl, T-inr, T-iff, T-true, T-false, true-T, false-T}
 use Rattle.ipl.specs.Lists.{all, any, tabulate, All, Distinct}
 
 -- ---- every element
@@ -95,6 +95,11 @@ any-left p (x ∷ l) r t = elim (T-or (p x) (any p l) t) [
   | inr h ↦ T-inr (p x) (any p (l ++ r)) (any-left p l r h)
 ]
 
+pub any-snoc : {A : Type 0} (p : A → Bool) (l : List A) (x : A) → any p (l ++ (x ∷ [])) ≡ any p l || p x
+unfolding any
+any-snoc p [] x = or-false (p x)
+any-snoc p (y ∷ l) x = ap (λ (b : Bool). p y || b) (any-snoc p l x) ∙ sym (or-assoc (p y) (any p l) (p x))
+
 pub any-last : {A : Type 0} (p : A → Bool) (l : List A) (x : A) → T (p x) → T (any p (l ++ (x ∷ [])))
 unfolding any
 any-last p [] x t = T-inl (p x) false t
@@ -133,6 +138,16 @@ All-tabulate P f (suc n) = (
   λ h. All-append P (tabulate f n) (f n ∷ []) (All-tabulate P f n .1 (λ i l. h i (omega arith))) (h n (omega arith), tt),
 )
 
+pub tabulate-at : {A : Type 0} (f : ℕ → A) (d : A) (n i : ℕ) → i < n → getD (tabulate f n) i d ≡ f i
+unfolding tabulate
+tabulate-at f d zero i l = absurd (not-suc-le-zero l)
+tabulate-at f d (suc n) i l = elim (decLt i n) [
+  | yes k ↦ List·getD-append (tabulate f n) (f n ∷ []) d i (omega (arith, tabulate-length f n)) ∙ tabulate-at f d n i k
+  | no k ↦
+      let e : i ≡ n = omega arith in
+      rw e (subst (λ (j : ℕ). getD (tabulate f n ++ (f n ∷ [])) j d ≡ f n) (tabulate-length f n) (getD-append-seam (tabulate f n) (f n) [] d))
+]
+
 -- A test over a table, one row after the other.
 pub all-next : {A : Type 0} (p : A → Bool) (f : ℕ → A) (i : ℕ) → all p (tabulate f i) ≡ true → p (f i) ≡ true → all p (tabulate f (i + 1)) ≡ true
 unfolding tabulate
@@ -144,6 +159,18 @@ all-fails p f i n l e =
 
 pub all-end : {A : Type 0} (p : A → Bool) (f : ℕ → A) (i n : ℕ) → i ≤ n → n ≤ i → all p (tabulate f i) ≡ true → true ≡ all p (tabulate f n)
 all-end p f i n h k e = sym (subst (λ (j : ℕ). all p (tabulate f j) ≡ true) (omega arith) e)
+
+-- Some row, one after the other.
+pub any-next : {A : Type 0} (p : A → Bool) (f : ℕ → A) (i : ℕ) → any p (tabulate f i) ≡ false → p (f i) ≡ false → any p (tabulate f (i + 1)) ≡ false
+unfolding tabulate
+any-next p f i h e = rw (add-one i, any-snoc p (tabulate f i) (f i), h, e)
+
+pub any-found : {A : Type 0} (p : A → Bool) (f : ℕ → A) (i n : ℕ) → i < n → p (f i) ≡ true → any p (tabulate f n) ≡ true
+any-found p f i n l e =
+    T-true (any p (tabulate f n)) (at-any p (tabulate f n) (f i) i (omega (arith, tabulate-length f n)) (rw (tabulate-at f (f i) n i l) (true-T e)))
+
+pub any-end : {A : Type 0} (p : A → Bool) (f : ℕ → A) (i n : ℕ) → i ≤ n → n ≤ i → any p (tabulate f i) ≡ false → false ≡ any p (tabulate f n)
+any-end p f i n h k e = sym (subst (λ (j : ℕ). any p (tabulate f j) ≡ false) (omega arith) e)
 
 -- Two tests of the rows are the test of both.
 pub all-both : {A B C : Type 0} (p : A → Bool) (q : B → Bool) (r : C → Bool) (f : ℕ → A) (g : ℕ → B) (h : ℕ → C) (n : ℕ)
@@ -159,16 +186,6 @@ all-both p q r f g h n e =
   where
     row : T (all r (tabulate h n)) → (i : ℕ) → i < n → T (r (h i))
     row t = All-tabulate (λ x. T (r x)) h n .0 (all-All r (tabulate h n) t)
-
-pub tabulate-at : {A : Type 0} (f : ℕ → A) (d : A) (n i : ℕ) → i < n → getD (tabulate f n) i d ≡ f i
-unfolding tabulate
-tabulate-at f d zero i l = absurd (not-suc-le-zero l)
-tabulate-at f d (suc n) i l = elim (decLt i n) [
-  | yes k ↦ List·getD-append (tabulate f n) (f n ∷ []) d i (omega (arith, tabulate-length f n)) ∙ tabulate-at f d n i k
-  | no k ↦
-      let e : i ≡ n = omega arith in
-      rw e (subst (λ (j : ℕ). getD (tabulate f n ++ (f n ∷ [])) j d ≡ f n) (tabulate-length f n) (getD-append-seam (tabulate f n) (f n) [] d))
-]
 
 pub map-tabulate : {A B : Type 0} (h : A → B) (f : ℕ → A) (n : ℕ) → map h (tabulate f n) ≡ tabulate (λ i. h (f i)) n
 unfolding tabulate

@@ -2,3 +2,4 @@
 pub mod Ranges
 pub mod Rows
 pub mod Refusals
+pub mod Pairs

@@ -2,3 +2,4 @@
 pub mod State
 pub mod InRange
 pub mod Calls
+pub mod Working

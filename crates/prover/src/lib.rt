@@ -4,6 +4,7 @@ ghost use Rattle.prover.specs.Calls.{Opened, FlatAdded, ImplicationAdded
 
 mod additions;
 mod range;
+mod realization;
 
 pub struct Flats {
     pub count: usize,
