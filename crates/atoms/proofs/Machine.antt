@@ -112,3 +112,7 @@ keep-row t i x h = record { size = refl; written = λ k. absurd (omega arith); o
 pub row-count : (t : List ℕ) (k : ℕ) → length t ≡ k * words → rowCount t ≡ k
 unfolding rowCount words
 row-count t k e = omega (arith, e)
+
+pub same-rows : (a b : List ℕ) → length a ≡ length b → rowCount a ≡ rowCount b
+unfolding rowCount
+same-rows a b e = e

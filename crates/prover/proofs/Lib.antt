@@ -3,3 +3,4 @@ pub mod Ranges
 pub mod Rows
 pub mod Refusals
 pub mod Pairs
+pub mod Dropping

@@ -1,13 +1,16 @@
 -- Laws of a table with one row more.
 use mathlib.Core.List.{List, [], _∷_, _++_}
-use mathlib.Core.Path.{_≡_, ap₂}
-use Prim.Native.Nat.{ℕ, _+_, _<_}
+use mathlib.Core.Path.{_≡_, ap, ap₂, _∙_, subst}
+use native.Mathlib.Decide.{decLt}
+use Rattle.prover.specs.Working.{Copied, learnedRow, StepsFit, StepsWritten}
+use Rattle.prover.specs.declared.Steps.{Steps}
+use Prim.Native.Nat.{ℕ, _+_, _≤_, _<_}
 use native.Mathlib.Numerals.{add-one}
 use native.Mathlib.Omega.{arith}
 use lib.ListN.{length, set}
 use lib.Seq.{getD-set-same, getD-set-other}
-use Rattle.atoms.specs.Words.{words, rowCount, RowSet}
-use Rattle.atoms.proofs.Machine.{row-count}
+use Rattle.atoms.specs.Words.{words, rowOf, rowCount, RowSet}
+use Rattle.atoms.proofs.Machine.{row-count, same-rows}
 use Rattle.ipl.specs.Lists.{tabulate}
 use Rattle.ipl.specs.Clause.{Implication}
 use Rattle.ipl.specs.Range.{flatTable}
@@ -54,3 +57,49 @@ implications-more t a b c la lb lc =
 
     row : {a b c a2 b2 c2 : ℕ} → a ≡ a2 → b ≡ b2 → c ≡ c2 → _≡_ {A = Implication} (record { a = a; b = b; c = c }) (record { a = a2; b = b2; c = c2 })
     row p q r = λ i. record { a = p i; b = q i; c = r i }
+
+-- A row copied after those before it.
+pub copied-more : (from before mid after : List ℕ) (i : ℕ) → Copied from before i mid → RowSet mid i (rowOf from i) after → i < rowCount before → Copied from before (i + 1) after
+copied-more from before mid after i h r k = record {
+    size = r .size ∙ h .size;
+    rows = λ j l. elim (decLt j i) [
+        yes m ↦ r .others j (λ e. omega arith) ∙ h .rows j m
+      | no m ↦ let e : i ≡ j = omega arith in subst (λ (j : ℕ). rowOf after j ≡ rowOf from j) e (r .written (omega (arith, same-rows mid before (h .size)))) ];
+  }
+
+-- A learned clause written after those before it.
+pub steps-more : (left right left1 right1 left2 right2 : List ℕ) (flats : ℕ) (steps : Steps) (x : Implications) (k : ℕ) → StepsFit left right flats steps x → k < steps .count
+    → StepsWritten left right flats steps x k left1 right1
+    → (A : ℕ) → A ≡ rowOf (steps .assumed) k
+    → RowSet left1 (flats + k) (learnedRow x (byteAt (steps .numbers) k) A .left) left2
+    → RowSet right1 (flats + k) (learnedRow x (byteAt (steps .numbers) k) A .right) right2
+    → StepsWritten left right flats steps x (k + 1) left2 right2
+steps-more left right left1 right1 left2 right2 flats steps x k f lt h A eA l r = record {
+    left-size = l .size ∙ h .left-size;
+    right-size = r .size ∙ h .right-size;
+    flats-stay = λ i b. other i (omega arith) ∙ h .flats-stay i b;
+    learned-follow = λ j b. elim (decLt j k) [
+        yes m ↦ other (flats + j) (omega arith) ∙ h .learned-follow j m
+      | no m ↦ let e : k ≡ j = omega arith in
+          subst (λ (j : ℕ). clauseAt left2 right2 (flats + j) ≡ learnedRow x (byteAt (steps .numbers) j) (rowOf (steps .assumed) j)) e written ];
+  }
+  where
+    other : (i : ℕ) → i < flats + k → clauseAt left2 right2 i ≡ clauseAt left1 right1 i
+    other i b = ap₂ (λ (x y : ℕ). record { left = x; right = y }) (l .others i (λ e. omega arith)) (r .others i (λ e. omega arith))
+    written : clauseAt left2 right2 (flats + k) ≡ learnedRow x (byteAt (steps .numbers) k) (rowOf (steps .assumed) k)
+    written =
+        ap₂ (λ (x y : ℕ). record { left = x; right = y })
+          (l .written (omega (arith, same-rows left1 left (h .left-size), f .left-room))) (r .written (omega (arith, same-rows right1 right (h .right-size), f .right-room)))
+        ∙ ap (learnedRow x (byteAt (steps .numbers) k)) eA
+
+-- The same row by another name of its set.
+pub row-set-as : {before after : List ℕ} {i x y : ℕ} → RowSet before i x after → x ≡ y → RowSet before i y after
+row-set-as {before} {after} {i} r e = subst (λ (z : ℕ). RowSet before i z after) e r
+
+-- At the end of a loop.
+pub copied-end : (from before after : List ℕ) (i n : ℕ) → i ≤ n → n ≤ i → Copied from before i after → Copied from before n after
+copied-end from before after i n h k c = subst (λ (j : ℕ). Copied from before j after) (omega arith) c
+
+pub steps-end : (left right left2 right2 : List ℕ) (flats : ℕ) (steps : Steps) (x : Implications) (k n : ℕ) → k ≤ n → n ≤ k
+    → StepsWritten left right flats steps x k left2 right2 → StepsWritten left right flats steps x n left2 right2
+steps-end left right left2 right2 flats steps x k n h l c = subst (λ (j : ℕ). StepsWritten left right flats steps x j left2 right2) (omega arith) c

@@ -5,12 +5,17 @@ use mathlib.Core.Path.{_≡_}
 use Prim.Native.Nat.{ℕ, _+_, _*_, _≤_, _<_}
 use lib.Dec.{T}
 use lib.ListN.{length}
-use Rattle.atoms.specs.Words.{rowOf, rowCount}
+use Rattle.atoms.specs.Sets.{minus}
+use Rattle.atoms.specs.Words.{rowOf, rowCount, singleOrEmpty}
 use Rattle.ipl.specs.Lists.{tabulate}
-use Rattle.ipl.specs.Clause.{realizes}
-use Rattle.ipl.specs.Range.{stepTable, worldTable}
-use Rattle.prover.specs.State.{implicationRow}
+use Rattle.ipl.specs.Clause.{Flat, realizes}
+use Rattle.ipl.specs.Question.{ask}
+use Rattle.ipl.specs.Search.{isNone}
+use Rattle.ipl.specs.Range.{flatTable, stepTable, worldTable, implicationTable}
+use Rattle.prover.specs.State.{byteAt, implicationRow}
+use Rattle.sat.specs.Table.{clauseAt}
 use Rattle.prover.specs.declared.Implications.{Implications}
+use Rattle.prover.specs.declared.Steps.{Steps}
 use Rattle.prover.specs.declared.realization.Pair.{Pair}
 
 -- World w realizes implication i within the first `count` worlds.
@@ -35,3 +40,32 @@ pub record NextPair (sets : List ℕ) (count : ℕ) (x : Implications) (p q : Pa
   pub bounded : q .world ≤ count
   pub number : q .world < count → q .implication < x .count
   pub found : q .world < count → realizedAt sets count x (q .world) (q .implication) ≡ false
+
+-- R and B prove b, as a test of B.
+abbrev pub proves : ℕ → List Flat → ℕ → ℕ → Bool
+proves n R b B = isNone (ask n R B b)
+
+-- The first `count` rows are those of `from`.
+pub record Copied (from before : List ℕ) (count : ℕ) (after : List ℕ) : Type 0 where
+  pub size : length after ≡ length before
+  pub rows : (i : ℕ) → i < count → rowOf after i ≡ rowOf from i
+
+-- The row of a learned clause, as the code writes it for implication i and the set assumed.
+abbrev pub learnedRow : Implications → ℕ → ℕ → Flat
+learnedRow x i assumed = record { left = minus assumed (singleOrEmpty (byteAt (x .a) i)); right = singleOrEmpty (byteAt (x .c) i) }
+
+-- There is room for the clauses of the steps, and their numbers are those of implications.
+pub record StepsFit (left right : List ℕ) (flats : ℕ) (steps : Steps) (x : Implications) : Type 0 where
+  pub flats-room : flats ≤ flatTable
+  pub left-room : flats + steps .count ≤ rowCount left
+  pub right-room : flats + steps .count ≤ rowCount right
+  pub count : steps .count ≤ stepTable
+  pub implications : x .count ≤ implicationTable
+  pub numbers : (k : ℕ) → k < steps .count → byteAt (steps .numbers) k < x .count
+
+-- The flat clauses stay, and the clauses of the first k steps follow them.
+pub record StepsWritten (left right : List ℕ) (flats : ℕ) (steps : Steps) (x : Implications) (k : ℕ) (left2 right2 : List ℕ) : Type 0 where
+  pub left-size : length left2 ≡ length left
+  pub right-size : length right2 ≡ length right
+  pub flats-stay : (i : ℕ) → i < flats → clauseAt left2 right2 i ≡ clauseAt left right i
+  pub learned-follow : (j : ℕ) → j < k → clauseAt left2 right2 (flats + j) ≡ learnedRow x (byteAt (steps .numbers) j) (rowOf (steps .assumed) j)

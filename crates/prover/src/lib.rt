@@ -5,6 +5,7 @@ ghost use Rattle.prover.specs.Calls.{Opened, FlatAdded, ImplicationAdded
 mod additions;
 mod range;
 mod realization;
+mod working;
 
 pub struct Flats {
     pub count: usize,

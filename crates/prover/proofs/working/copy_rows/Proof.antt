@@ -1,0 +1,57 @@
+-- The rows passed are copied.
+use mathlib.Core.Path.{refl, subst}
+use Prim.Native.Nat.{ℕ, _≤_, _-_}
+use Rattle.atoms.specs.Words.{RowSet}
+use Rattle.prover.specs.Working.{Copied}
+use Rattle.prover.proofs.Rows.{copied-more, copied-end}
+use borrow.Author.Needs.{needs}
+use native.Mathlib.Omega.{arith}
+use Rattle.prover.proofs.working.copy_rows.Statement.{statement}
+use Rattle.prover.proofs.working.copy_rows.Tie as tie
+
+abbrev Inv-loop : tie.InvT-loop
+Inv-loop from to₀ count i₀ to i = (i ≤ count) × Copied from to₀ i to
+
+abbrev μ-loop : tie.MeasureT-loop
+μ-loop from to₀ count i₀ to i = count - i
+
+loop-holds : tie.Need-loop-holds Inv-loop μ-loop
+loop-holds c = (omega arith, record { size = refl; rows = λ j l. absurd (omega arith) })
+
+row-requires : tie.Need-row-requires Inv-loop μ-loop
+row-requires c κs = search needs
+
+set-row-requires : tie.Need-set-row-requires Inv-loop μ-loop
+set-row-requires c κs = search needs
+
+add-i : tie.Need-add-i Inv-loop μ-loop
+add-i c = omega arith
+
+loop-less : tie.Need-loop-less Inv-loop μ-loop
+loop-less c = omega arith
+
+loop-again : tie.Need-loop-again Inv-loop μ-loop
+loop-again c = 
+    let l = c .before .before .before .before .before .before in
+    (omega arith, copied-more _ _ _ _ _ (l .loop .inv .1) (subst (λ (x : ℕ). RowSet (l .loop .to) (l .loop .i) x (c .before .before .set-row .last .0)) (c .before .before .before .row .ensures) (c .before .before .set-row .ensures)) (omega (arith, l .before .before .before .pre)))
+
+same-length : tie.Need-same-length Inv-loop μ-loop
+same-length c = c .before .loop .inv .1 .size
+
+returns : tie.Need-returns Inv-loop μ-loop
+returns c = copied-end _ _ _ _ (c .before .before .before .before .args .count) (omega arith) (omega arith) (c .before .loop .inv .1)
+
+pub copy-rows-spec : {M : Type 1} → statement M
+copy-rows-spec =
+    tie.close
+    (tie.spec
+    Inv-loop
+    μ-loop
+    loop-holds
+    row-requires
+    set-row-requires
+    add-i
+    loop-less
+    loop-again
+    same-length
+    returns)
