@@ -1,12 +1,12 @@
 -- Laws of the dropping of atoms, one after the other.
-use mathlib.Core.Bool.{Bool, true, false, _&&_}
+use mathlib.Core.Bool.{Bool, true, false}
 use mathlib.Core.List.{List}
-use mathlib.Core.Option.{Option, none, some}
-use mathlib.Core.Path.{_≡_, refl, sym, ap, _∙_, subst}
-use Prim.Native.Nat.{ℕ, zero, suc, _+_, _-_, _≤_, _<_, min}
+use mathlib.Core.Option.{none, some}
+use mathlib.Core.Path.{_≡_, sym, ap, _∙_}
+use Prim.Native.Nat.{ℕ, suc, _+_, _-_, _≤_, _<_, min}
 use native.Mathlib.Numerals.{add-one}
 use native.Mathlib.Omega.{arith}
-use Rattle.atoms.specs.Sets.{has, limit, single, minus, remove}
+use Rattle.atoms.specs.Sets.{has, limit, minus, remove}
 use Rattle.atoms.specs.Words.{singleOrEmpty}
 use Rattle.atoms.proofs.Machine.{single-bits}
 use Rattle.ipl.specs.Clause.{Flat}
@@ -48,3 +48,7 @@ drop-next p n k A h =
 pub drop-end : (p : ℕ → Bool) (n k A : ℕ) → n ≤ k → dropFrom p (n - k) k A ≡ A
 unfolding dropFrom
 drop-end p n k A h = let e : n - k ≡ 0 = omega arith in ap (λ (d : ℕ). dropFrom p d k A) e
+
+-- Nothing is given.
+pub ask-empty : (n : ℕ) (R : List Flat) (A b : ℕ) → A ≡ 0 → ask n R A b ≡ ask n R 0 b
+ask-empty n R A b e = ap (λ (z : ℕ). ask n R z b) e

@@ -4,3 +4,4 @@ pub mod Rows
 pub mod Refusals
 pub mod Pairs
 pub mod Dropping
+pub mod Turns

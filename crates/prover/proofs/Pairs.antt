@@ -1,7 +1,7 @@
 -- Laws of the first pair not realized: going on from the last pair finds the same as starting anew.
-use mathlib.Core.Bool.{Bool, true, false, cond, _||_}
-use mathlib.Core.List.{List, [], _∷_, _++_}
-use mathlib.Core.Option.{Option, none, some, orElse}
+use mathlib.Core.Bool.{Bool, true, false}
+use mathlib.Core.List.{List, [], _∷_}
+use mathlib.Core.Option.{none, some, orElse}
 use mathlib.Core.Path.{_≡_, refl, sym, ap, _∙_, subst}
 use Prim.Native.Nat.{ℕ, zero, suc, _+_, _≤_, _<_, zero-le, suc-le-suc}
 use native.Mathlib.Decide.{decLt}
@@ -9,11 +9,10 @@ use native.Mathlib.Nat.{not-suc-le-zero, le-of-suc-le-suc, add-zero, suc-add, ad
 use native.Mathlib.Omega.{arith}
 use lib.Dec.{T}
 use lib.ListN.{length, getD}
-use Rattle.atoms.specs.Sets.{has}
 use Rattle.atoms.specs.Words.{rowOf}
-use Rattle.atoms.proofs.Truth.{T-true, T-or, T-inl, T-inr, true-T}
-use Rattle.ipl.specs.Lists.{any, tabulate}
-use Rattle.ipl.specs.Clause.{Implication, beyond, realizes}
+use Rattle.atoms.proofs.Truth.{T-true, true-T}
+use Rattle.ipl.specs.Lists.{tabulate}
+use Rattle.ipl.specs.Clause.{Implication, realizes}
 use Rattle.ipl.specs.Search.{Pair, firstAt, firstUnrealized}
 use Rattle.ipl.proofs.Lists.{tabulate-length, tabulate-at}
 use Rattle.prover.specs.State.{implicationRow, implicationsOf}
@@ -71,7 +70,7 @@ module _ (sets : List ℕ) (count : ℕ) (x : Implications) where
 
   pub pair-found : (p : code.Pair) → Passed sets count x p → p .world < count → p .implication < x .count → realizedAt sets count x (p .world) (p .implication) ≡ false
       → firstUnrealized (tabulate (rowOf sets) count) (implicationsOf x) (tabulate (rowOf sets) count)
-        ≡ some (record { world = rowOf sets (p .world); number = p .implication; implication = implicationRow x (p .implication) })
+      ≡ some (record { world = rowOf sets (p .world); number = p .implication; implication = implicationRow x (p .implication) })
   pair-found p h l m e =
       let X : List Implication = implicationsOf x in
       let W : List ℕ = tabulate (rowOf sets) count in
@@ -79,11 +78,11 @@ module _ (sets : List ℕ) (count : ℕ) (x : Implications) where
       let lx : length X ≡ x .count = tabulate-length (implicationRow x) (x .count) in
       subst (λ (w : ℕ). firstUnrealized W X W ≡ some (record { world = w; number = p .implication; implication = implicationRow x (p .implication) })) (tabulate-at (rowOf sets) 0 count (p .world) l)
       (subst (λ (i : Implication). firstUnrealized W X W ≡ some (record { world = getD W (p .world) 0; number = p .implication; implication = i }))
-        (tabulate-at (implicationRow x) (record { a = 0; b = 0; c = 0 }) (x .count) (p .implication) m)
-        (first-found W X (record { a = 0; b = 0; c = 0 }) W (p .world) (p .implication)
-          (λ u j a b. subst T (sym (at-rows u j (omega arith) (omega (arith, lx)))) (h .worlds u j a (omega (arith, lx))))
-          (λ j a. subst T (sym (at-rows (p .world) j l (omega arith))) (h .implications j a))
-          (omega (arith, lw)) (omega (arith, lx)) (at-rows (p .world) (p .implication) l m ∙ e)))
+      (tabulate-at (implicationRow x) (record { a = 0; b = 0; c = 0 }) (x .count) (p .implication) m)
+      (first-found W X (record { a = 0; b = 0; c = 0 }) W (p .world) (p .implication)
+      (λ u j a b. subst T (sym (at-rows u j (omega arith) (omega (arith, lx)))) (h .worlds u j a (omega (arith, lx))))
+      (λ j a. subst T (sym (at-rows (p .world) j l (omega arith))) (h .implications j a))
+      (omega (arith, lw)) (omega (arith, lx)) (at-rows (p .world) (p .implication) l m ∙ e)))
 
   pub pair-none : (p : code.Pair) → Passed sets count x p → count ≤ p .world
       → firstUnrealized (tabulate (rowOf sets) count) (implicationsOf x) (tabulate (rowOf sets) count) ≡ none
@@ -93,19 +92,20 @@ module _ (sets : List ℕ) (count : ℕ) (x : Implications) where
       let lw : length W ≡ count = tabulate-length (rowOf sets) count in
       let lx : length X ≡ x .count = tabulate-length (implicationRow x) (x .count) in
       first-none W X (record { a = 0; b = 0; c = 0 }) W
-        (λ u j a b. subst T (sym (at-rows u j (omega (arith, lw)) (omega (arith, lx)))) (h .worlds u j (omega (arith, lw)) (omega (arith, lx))))
+      (λ u j a b. subst T (sym (at-rows u j (omega (arith, lw)) (omega (arith, lx)))) (h .worlds u j (omega (arith, lw)) (omega (arith, lx))))
 
   -- One world's implications, and then the next world.
   pub passed-at : (p : code.Pair) (r : ℕ) → FirstAt sets count (p .world) x (p .implication) r → Passed sets count x p → Passed sets count x (record { world = p .world; implication = r })
   passed-at p r f h = record {
-      worlds = h .worlds;
-      implications = λ i l. elim (decLt i (p .implication)) [ yes m ↦ h .implications i m | no m ↦ f .passed i (omega arith) l ];
-    }
+    worlds = h .worlds;
+    implications = λ i l. elim (decLt i (p .implication)) [ yes m ↦ h .implications i m | no m ↦ f .passed i (omega arith) l ];
+  }
 
   pub passed-world : (p : code.Pair) → x .count ≤ p .implication → Passed sets count x p → Passed sets count x (record { world = p .world + 1; implication = 0 })
   passed-world p l h = record {
-      worlds = λ w i a b. elim (decLt w (p .world)) [
-          yes m ↦ h .worlds w i m b
-        | no m ↦ subst (λ (v : ℕ). T (realizedAt sets count x v i)) (omega arith) (h .implications i (omega arith)) ];
-      implications = λ i a. absurd (not-suc-le-zero a);
-    }
+    worlds = λ w i a b. elim (decLt w (p .world)) [
+      | yes m ↦ h .worlds w i m b
+      | no m ↦ subst (λ (v : ℕ). T (realizedAt sets count x v i)) (omega arith) (h .implications i (omega arith))
+    ];
+    implications = λ i a. absurd (not-suc-le-zero a);
+  }

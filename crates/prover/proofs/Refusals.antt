@@ -51,7 +51,7 @@ flat-room s f e =
     omega (arith, flat-unrefused (book s) f (number-zero s (flatRefusal (book s) f) e .1) .1, clauses-length (s .flats .left) (s .flats .right) (s .flats .count))
 
 -- An atom or ⊥, as the code makes its set.
-single-one : (n x : ℕ) → n ≤ limit → AtomOrBot n x → singleOrEmpty x ≡ one x
+pub single-one : (n x : ℕ) → n ≤ limit → AtomOrBot n x → singleOrEmpty x ≡ one x
 unfolding one
 single-one n x h (inl l) = single-bits x (omega arith) ∙ rw (ne-eqb x bot (λ e. omega (arith, limit-small)))
 single-one n x h (inr e) = rw e (single-none bot limit-small)

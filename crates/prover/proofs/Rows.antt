@@ -61,11 +61,12 @@ implications-more t a b c la lb lc =
 -- A row copied after those before it.
 pub copied-more : (from before mid after : List ℕ) (i : ℕ) → Copied from before i mid → RowSet mid i (rowOf from i) after → i < rowCount before → Copied from before (i + 1) after
 copied-more from before mid after i h r k = record {
-    size = r .size ∙ h .size;
-    rows = λ j l. elim (decLt j i) [
-        yes m ↦ r .others j (λ e. omega arith) ∙ h .rows j m
-      | no m ↦ let e : i ≡ j = omega arith in subst (λ (j : ℕ). rowOf after j ≡ rowOf from j) e (r .written (omega (arith, same-rows mid before (h .size)))) ];
-  }
+  size = r .size ∙ h .size;
+  rows = λ j l. elim (decLt j i) [
+    | yes m ↦ r .others j (λ e. omega arith) ∙ h .rows j m
+    | no m ↦ let e : i ≡ j = omega arith in subst (λ (j : ℕ). rowOf after j ≡ rowOf from j) e (r .written (omega (arith, same-rows mid before (h .size))))
+  ];
+}
 
 -- A learned clause written after those before it.
 pub steps-more : (left right left1 right1 left2 right2 : List ℕ) (flats : ℕ) (steps : Steps) (x : Implications) (k : ℕ) → StepsFit left right flats steps x → k < steps .count
@@ -75,21 +76,23 @@ pub steps-more : (left right left1 right1 left2 right2 : List ℕ) (flats : ℕ)
     → RowSet right1 (flats + k) (learnedRow x (byteAt (steps .numbers) k) A .right) right2
     → StepsWritten left right flats steps x (k + 1) left2 right2
 steps-more left right left1 right1 left2 right2 flats steps x k f lt h A eA l r = record {
-    left-size = l .size ∙ h .left-size;
-    right-size = r .size ∙ h .right-size;
-    flats-stay = λ i b. other i (omega arith) ∙ h .flats-stay i b;
-    learned-follow = λ j b. elim (decLt j k) [
-        yes m ↦ other (flats + j) (omega arith) ∙ h .learned-follow j m
-      | no m ↦ let e : k ≡ j = omega arith in
-          subst (λ (j : ℕ). clauseAt left2 right2 (flats + j) ≡ learnedRow x (byteAt (steps .numbers) j) (rowOf (steps .assumed) j)) e written ];
-  }
+  left-size = l .size ∙ h .left-size;
+  right-size = r .size ∙ h .right-size;
+  flats-stay = λ i b. other i (omega arith) ∙ h .flats-stay i b;
+  learned-follow = λ j b. elim (decLt j k) [
+    | yes m ↦ other (flats + j) (omega arith) ∙ h .learned-follow j m
+    | no m ↦ let e : k ≡ j = omega arith in
+        subst (λ (j : ℕ). clauseAt left2 right2 (flats + j) ≡ learnedRow x (byteAt (steps .numbers) j) (rowOf (steps .assumed) j)) e written
+  ];
+}
   where
     other : (i : ℕ) → i < flats + k → clauseAt left2 right2 i ≡ clauseAt left1 right1 i
     other i b = ap₂ (λ (x y : ℕ). record { left = x; right = y }) (l .others i (λ e. omega arith)) (r .others i (λ e. omega arith))
+
     written : clauseAt left2 right2 (flats + k) ≡ learnedRow x (byteAt (steps .numbers) k) (rowOf (steps .assumed) k)
     written =
         ap₂ (λ (x y : ℕ). record { left = x; right = y })
-          (l .written (omega (arith, same-rows left1 left (h .left-size), f .left-room))) (r .written (omega (arith, same-rows right1 right (h .right-size), f .right-room)))
+        (l .written (omega (arith, same-rows left1 left (h .left-size), f .left-room))) (r .written (omega (arith, same-rows right1 right (h .right-size), f .right-room)))
         ∙ ap (learnedRow x (byteAt (steps .numbers) k)) eA
 
 -- The same row by another name of its set.

@@ -3,3 +3,4 @@ pub mod State
 pub mod InRange
 pub mod Calls
 pub mod Working
+pub mod Search

@@ -1,8 +1,8 @@
 -- The search in code: its working tables, and where it stands in them.
 use mathlib.Core.Bool.{Bool, false}
-use mathlib.Core.List.{List, []}
+use mathlib.Core.List.{List}
 use mathlib.Core.Path.{_≡_}
-use Prim.Native.Nat.{ℕ, _+_, _*_, _≤_, _<_}
+use Prim.Native.Nat.{ℕ, _+_, _≤_, _<_}
 use lib.Dec.{T}
 use lib.ListN.{length}
 use Rattle.atoms.specs.Sets.{minus}
@@ -11,7 +11,7 @@ use Rattle.ipl.specs.Lists.{tabulate}
 use Rattle.ipl.specs.Clause.{Flat, realizes}
 use Rattle.ipl.specs.Question.{ask}
 use Rattle.ipl.specs.Search.{isNone}
-use Rattle.ipl.specs.Range.{flatTable, stepTable, worldTable, implicationTable}
+use Rattle.ipl.specs.Range.{flatTable, stepTable, implicationTable}
 use Rattle.prover.specs.State.{byteAt, implicationRow}
 use Rattle.sat.specs.Table.{clauseAt}
 use Rattle.prover.specs.declared.Implications.{Implications}

@@ -3,6 +3,7 @@ use atoms::AtomSet;
 ghost use Rattle.prover.specs.Calls.{Opened, FlatAdded, ImplicationAdded};
 
 mod additions;
+mod question;
 mod range;
 mod realization;
 mod working;

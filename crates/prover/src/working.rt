@@ -12,7 +12,15 @@ ghost use Rattle.sat.specs.Table.{clauses};
 ghost use Rattle.prover.specs.Working.{proves, Copied, StepsFit, StepsWritten};
 
 // A without the atom k, where the rest still proves `asked`.
-fn drop_atom<'a>(left: &'a [u64], right: &'a [u64], rows: usize, n: u8, a: AtomSet, asked: u8, k: u8) -> AtomSet
+fn drop_atom<'a>(
+    left: &'a [u64],
+    right: &'a [u64],
+    rows: usize,
+    n: u8,
+    a: AtomSet,
+    asked: u8,
+    k: u8,
+) -> AtomSet
     requires { ⌜ (k < n) × (n ≤ limit) ⌝ }
     ensures { λ r. ⌜ num r ≡ dropOne (proves n (clauses (now (left .entry)) (now (right .entry)) rows) asked) k (num a) ⌝ }
 {
@@ -27,7 +35,14 @@ fn drop_atom<'a>(left: &'a [u64], right: &'a [u64], rows: usize, n: u8, a: AtomS
 }
 
 // `given` without those atoms, in rising number, that the proof of `asked` does not need.
-pub fn drop_atoms<'a>(left: &'a [u64], right: &'a [u64], rows: usize, n: u8, given: AtomSet, asked: u8) -> AtomSet
+pub fn drop_atoms<'a>(
+    left: &'a [u64],
+    right: &'a [u64],
+    rows: usize,
+    n: u8,
+    given: AtomSet,
+    asked: u8,
+) -> AtomSet
     requires { ⌜ n ≤ limit ⌝ }
     ensures { λ r. ⌜ num r ≡ dropFrom (proves n (clauses (now (left .entry)) (now (right .entry)) rows) asked) n 0 (num given) ⌝ }
 {
@@ -68,7 +83,14 @@ pub fn write_steps(left: &mut [u64], right: &mut [u64], flats: usize, steps: Ste
     let mut k = 0;
     while k < steps.count {
         let i = steps.numbers[k] as usize;
-        write_learned(left, right, flats + k, x.a[i], x.c[i], atoms::row(&steps.assumed, k));
+        write_learned(
+            left,
+            right,
+            flats + k,
+            x.a[i],
+            x.c[i],
+            atoms::row(&steps.assumed, k),
+        );
         k += 1;
     }
 }

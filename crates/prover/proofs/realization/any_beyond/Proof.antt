@@ -28,9 +28,9 @@ is-beyond-requires : tie.Need-is-beyond-requires Inv-loop μ-loop
 is-beyond-requires c κs = search needs
 
 returns : tie.Need-returns Inv-loop μ-loop
-returns c = 
+returns c =
     sym (any-found (beyond (record { a = c .before .before .before .before .before .before .args .a; b = c .before .before .before .before .before .before .args .b; c = c .before .before .before .before .before .before .args .c }) (num (c .before .before .before .before .before .before .args .m))) (rowOf (c .before .before .before .before .before .before .args .sets .now)) (c .before .before .before .before .loop .i) (c .before .before .before .before .before .before .args .count) (omega arith)
-      (ap (beyond _ _) (sym (c .before .before .row .ensures)) ∙ sym (c .before .is-beyond .ensures) ∙ c .if1 .taken))
+    (ap (beyond _ _) (sym (c .before .before .row .ensures)) ∙ sym (c .before .is-beyond .ensures) ∙ c .if1 .taken))
 
 add-i : tie.Need-add-i Inv-loop μ-loop
 add-i c = omega arith
@@ -39,9 +39,11 @@ loop-less : tie.Need-loop-less Inv-loop μ-loop
 loop-less c = omega arith
 
 loop-again : tie.Need-loop-again Inv-loop μ-loop
-loop-again c = 
-    (omega arith, any-next (beyond (record { a = c .before .before .before .before .before .before .args .a; b = c .before .before .before .before .before .before .args .b; c = c .before .before .before .before .before .before .args .c }) (num (c .before .before .before .before .before .before .args .m))) (rowOf (c .before .before .before .before .before .before .args .sets .now)) (c .before .before .before .before .loop .i) (c .before .before .before .before .loop .inv .1)
-      (ap (beyond _ _) (sym (c .before .before .row .ensures)) ∙ sym (c .before .is-beyond .ensures) ∙ c .if1 .left))
+loop-again c = (
+  omega arith,
+  any-next (beyond (record { a = c .before .before .before .before .before .before .args .a; b = c .before .before .before .before .before .before .args .b; c = c .before .before .before .before .before .before .args .c }) (num (c .before .before .before .before .before .before .args .m))) (rowOf (c .before .before .before .before .before .before .args .sets .now)) (c .before .before .before .before .loop .i) (c .before .before .before .before .loop .inv .1)
+      (ap (beyond _ _) (sym (c .before .before .row .ensures)) ∙ sym (c .before .is-beyond .ensures) ∙ c .if1 .left),
+)
 
 returns-2 : tie.Need-returns-2 Inv-loop μ-loop
 returns-2 c = any-end (beyond (record { a = c .before .before .before .args .a; b = c .before .before .before .args .b; c = c .before .before .before .args .c }) (num (c .before .before .before .args .m))) (rowOf (c .before .before .before .args .sets .now)) (c .before .loop .i) (c .before .before .before .args .count) (omega arith) (omega arith) (c .before .loop .inv .1)

@@ -4,7 +4,6 @@ use mathlib.Core.Path.{sym, _∙_}
 use native.Mathlib.Nat.{le-refl}
 use Prim.Native.Nat.{ℕ, _≤_, _<_, _-_}
 use lib.Dec.{T}
-use Rattle.atoms.proofs.Truth.{true-T}
 use Rattle.prover.specs.Working.{realizedAt}
 use Rattle.prover.proofs.Pairs.{passed-more}
 use borrow.Author.Needs.{needs}
@@ -37,7 +36,7 @@ realized-requires : tie.Need-realized-requires Inv-loop μ-loop
 realized-requires c κs = search needs
 
 returns : tie.Need-returns Inv-loop μ-loop
-returns c = 
+returns c =
     let l = c .before .before .before .before .before .before in
     record {
       after = l .loop .inv .0;
@@ -53,15 +52,17 @@ loop-less : tie.Need-loop-less Inv-loop μ-loop
 loop-less c = omega arith
 
 loop-again : tie.Need-loop-again Inv-loop μ-loop
-loop-again c = 
+loop-again c =
     let l = c .before .before .before .before .before .before in
-    let s = l .before .before .before in
-    (omega arith, omega arith
-    , passed-more (realizedAt (s .args .sets .now) (s .args .count) (s .args .t4) (s .args .w)) _ _ (l .loop .inv .2)
-        (rw (← l .before .row .ensures) (sym (c .before .realized .ensures) ∙ not-false _ (c .if1 .left))))
+    let s = l .before .before .before in (
+      omega arith,
+      omega arith,
+      passed-more (realizedAt (s .args .sets .now) (s .args .count) (s .args .t4) (s .args .w)) _ _ (l .loop .inv .2)
+          (rw (← l .before .row .ensures) (sym (c .before .realized .ensures) ∙ not-false _ (c .if1 .left))),
+    )
 
 returns-2 : tie.Need-returns-2 Inv-loop μ-loop
-returns-2 c = 
+returns-2 c =
     let l = c .before in
     record { after = l .loop .inv .0; bounded = l .loop .inv .1; passed = l .loop .inv .2; found = λ h. absurd (omega arith) }
 

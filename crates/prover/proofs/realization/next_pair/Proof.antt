@@ -1,6 +1,5 @@
 -- The pairs passed are realized.
-use native.Mathlib.Nat.{le-refl}
-use Prim.Native.Nat.{ℕ, _≤_, _-_, zero-le}
+use Prim.Native.Nat.{_≤_, _-_, zero-le}
 use Rattle.prover.specs.Working.{Passed}
 use Rattle.prover.proofs.Pairs.{passed-at, passed-world}
 use native.Mathlib.Omega.{arith}
@@ -20,7 +19,7 @@ first-at-requires : tie.Need-first-at-requires Inv-loop μ-loop
 first-at-requires c κs = (c .before .before .loop .inv .0, c .before .before .before .before .pre .2)
 
 returns : tie.Need-returns Inv-loop μ-loop
-returns c = 
+returns c =
     let f = c .before .before .first-at .ensures in
     let l = c .before .before .before .before .before in
     record {
@@ -37,13 +36,13 @@ loop-less : tie.Need-loop-less Inv-loop μ-loop
 loop-less c = omega arith
 
 loop-again : tie.Need-loop-again Inv-loop μ-loop
-loop-again c = 
+loop-again c =
     let f = c .before .before .before .first-at .ensures in
     let l = c .before .before .before .before .before .before in
     (zero-le, omega arith, λ h. passed-world _ _ _ (record { world = l .loop .q .world; implication = c .before .before .before .first-at .result }) (c .before .if2 .left) (passed-at _ _ _ (l .loop .q) _ f (l .loop .inv .2 h)))
 
 returns-2 : tie.Need-returns-2 Inv-loop μ-loop
-returns-2 c = 
+returns-2 c =
     let l = c .before .before in
     record { passed = l .loop .inv .2; bounded = l .loop .inv .1; number = λ h. absurd (omega arith); found = λ h. absurd (omega arith) }
 

@@ -31,7 +31,7 @@ loop-less : tie.Need-loop-less Inv-loop μ-loop
 loop-less c = omega arith
 
 loop-again : tie.Need-loop-again Inv-loop μ-loop
-loop-again c = 
+loop-again c =
     let l = c .before .before .before .before .before .before in
     (omega arith, copied-more _ _ _ _ _ (l .loop .inv .1) (subst (λ (x : ℕ). RowSet (l .loop .to) (l .loop .i) x (c .before .before .set-row .last .0)) (c .before .before .before .row .ensures) (c .before .before .set-row .ensures)) (omega (arith, l .before .before .before .pre)))
 

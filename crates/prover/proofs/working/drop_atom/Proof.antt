@@ -29,20 +29,20 @@ enum-told-2 : tie.Need-enum-told-2
 enum-told-2 c = search needs
 
 returns-2 : tie.Need-returns-2
-returns-2 c = 
+returns-2 c =
     let a = c .before .before in
     let e = a .before .before .before in
     let s = e .before .before .before .before in
     drop-taken _ _ _ _ _ (sym (e .before .has .ensures) ∙ not-false _ (e .if1 .left)) (s .pre .0) (s .pre .1) _ _ (a .before .before .single .ensures) (a .before .without .ensures)
-      (ap answerOf (sym (c .enum-told .given .1)) ∙ a .ask .ensures)
+    (ap answerOf (sym (c .enum-told .given .1)) ∙ a .ask .ensures)
 
 returns-3 : tie.Need-returns-3
-returns-3 c = 
+returns-3 c =
     let a = c .before .before in
     let e = a .before .before .before in
     let s = e .before .before .before .before in
     drop-kept _ _ _ _ _ (sym (e .before .has .ensures) ∙ not-false _ (e .if1 .left)) (s .pre .0) (s .pre .1) _ _ (a .before .before .single .ensures) (a .before .without .ensures)
-      _ (ap answerOf (sym (c .enum-told2 .given .1)) ∙ a .ask .ensures)
+    _ (ap answerOf (sym (c .enum-told2 .given .1)) ∙ a .ask .ensures)
 
 pub drop-atom-spec : {M : Type 1} → statement M
 drop-atom-spec =

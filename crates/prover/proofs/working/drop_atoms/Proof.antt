@@ -1,6 +1,6 @@
 -- What is left to drop gives the same.
-use mathlib.Core.Path.{_≡_, refl, sym, ap, _∙_}
-use Prim.Native.Nat.{ℕ, _-_}
+use mathlib.Core.Path.{_≡_, sym, ap, _∙_}
+use Prim.Native.Nat.{_-_}
 use Rattle.atoms.specs.Words.{num}
 use Rattle.ipl.specs.Search.{dropFrom}
 use Rattle.sat.specs.Table.{clauses}
@@ -29,7 +29,7 @@ loop-less : tie.Need-loop-less Inv-loop μ-loop
 loop-less c = omega arith
 
 loop-again : tie.Need-loop-again Inv-loop μ-loop
-loop-again c = 
+loop-again c =
     let l = c .before .before in
     l .loop .inv ∙ drop-next _ _ _ _ (omega arith) ∙ ap (dropFrom _ _ _) (sym (c .drop-atom .ensures))
 

@@ -1,8 +1,6 @@
 -- The clauses of the steps passed are written.
-use mathlib.Core.Path.{_≡_, refl, ap, _∙_, subst}
-use native.Mathlib.Numerals.{add-one}
-use Prim.Native.Nat.{ℕ, _+_, _≤_, _<_, _-_}
-use Rattle.atoms.specs.Sets.{minus}
+use mathlib.Core.Path.{refl}
+use Prim.Native.Nat.{_≤_, _<_, _-_}
 use Rattle.prover.specs.Working.{StepsWritten}
 use Rattle.prover.specs.State.{byteAt}
 use Rattle.prover.proofs.Rows.{steps-more, steps-end}
@@ -55,14 +53,15 @@ loop-less : tie.Need-loop-less Inv-loop μ-loop
 loop-less c = omega (arith, place (c .before .before .before .before .before .before .before .before .before .before .before .before .before .before))
 
 loop-again : tie.Need-loop-again Inv-loop μ-loop
-loop-again c = 
+loop-again c =
     let w = c .before .before .before .before in
     let l = c .before .before .before .before .before .before .before .before .before .before .before .before .before .before .before in
     let s = l .before .before .before in
-    let t = place (c .before .before .before .before .before .before .before .before .before .before .before .before .before .before) in
-    (omega (arith, t)
-    , steps-more _ _ _ _ _ _ _ _ _ _ (s .pre) t (l .loop .inv .1)
-        _ (w .before .row .ensures) (w .write-learned .ensures .0) (w .write-learned .ensures .1))
+    let t = place (c .before .before .before .before .before .before .before .before .before .before .before .before .before .before) in (
+      omega (arith, t),
+      steps-more _ _ _ _ _ _ _ _ _ _ (s .pre) t (l .loop .inv .1)
+          _ (w .before .row .ensures) (w .write-learned .ensures .0) (w .write-learned .ensures .1),
+    )
 
 same-length : tie.Need-same-length Inv-loop μ-loop
 same-length c = c .before .loop .inv .1 .left-size

@@ -1,0 +1,148 @@
+// A question: turns of the fixed search over the working tables, until it ends.
+use super::Implications;
+use super::realization;
+use super::realization::Pair;
+use super::working;
+use atoms::AtomSet;
+use sat::Answer;
+ghost use Prim.Native.Nat.{ℕ, _*_, _≤_, _<_};
+ghost use mathlib.Core.List.{List};
+ghost use Rattle.atoms.specs.Words.{num};
+ghost use Rattle.prover.specs.Search.{Usable, Working, Began, Grew, LearnFits, Learned, TurnRight};
+
+// Where the search stands in its tables: the counts, the questions so far, and the pair to look at next.
+pub struct Progress {
+    pub flats: usize,
+    pub steps: usize,
+    pub worlds: usize,
+    pub questions: usize,
+    pub pair: Pair,
+}
+
+pub enum Turned {
+    Valid,
+    Refuted,
+    Full(u8),
+    More(Progress),
+}
+
+// Point 1: valid, or the one world.
+fn begin<'a>(
+    left: &'a [u64],
+    right: &'a [u64],
+    sets: &mut [u64],
+    n: u8,
+    goal: u8,
+    p: Progress,
+) -> Turned
+    requires { ⌜ (p .flats ≤ 512) × (p .steps ≤ 512) × (p .questions < 513 * 258) ⌝ }
+    ensures { λ r. ⌜ Began (now (left .entry)) (now (right .entry)) (now (sets .entry)) n goal p (now (sets .exit)) r ⌝ }
+{
+    match sat::ask(left, right, p.flats + p.steps, n, AtomSet::EMPTY, goal) {
+        Answer::Proved => Turned::Valid,
+        Answer::Countered(m) => {
+            atoms::set_row(sets, 0, m);
+            Turned::More(Progress {
+                flats: p.flats,
+                steps: p.steps,
+                worlds: 1,
+                questions: p.questions + 1,
+                pair: Pair {
+                    world: 0,
+                    implication: 0,
+                },
+            })
+        }
+    }
+}
+
+// Point 3: one world more.
+fn grow(sets: &mut [u64], p: Progress, pair: Pair, m: AtomSet) -> Turned
+    requires { ⌜ p .questions < 513 * 258 ⌝ }
+    ensures { λ r. ⌜ Grew (now (sets .entry)) p pair (num m) (now (sets .exit)) r ⌝ }
+{
+    let at = p.worlds;
+    if 256 <= at {
+        return Turned::Full(11);
+    }
+    atoms::set_row(sets, at, m);
+    Turned::More(Progress {
+        flats: p.flats,
+        steps: p.steps,
+        worlds: at + 1,
+        questions: p.questions + 1,
+        pair,
+    })
+}
+
+// Point 4: the step learned at implication i from the set `given`, with its clause.
+fn learn(
+    left: &mut [u64],
+    right: &mut [u64],
+    numbers: &mut [u8],
+    assumed: &mut [u64],
+    n: u8,
+    x: Implications,
+    i: usize,
+    given: AtomSet,
+    p: Progress,
+) -> Turned
+    requires { ⌜ LearnFits n x i (now numbers) p ⌝ }
+    ensures { λ r. ⌜ ((sets : List ℕ) → Learned n x i (num given)
+        (record { left = now (left .entry); right = now (right .entry); numbers = now (numbers .entry); assumed = now (assumed .entry); sets = sets }) p
+        (record { left = now (left .exit); right = now (right .exit); numbers = now (numbers .exit); assumed = now (assumed .exit); sets = sets }) r) ⌝ }
+{
+    let at = p.steps;
+    if 512 <= at {
+        return Turned::Full(12);
+    }
+    let rows = p.flats + at;
+    let a = working::drop_atoms(left, right, rows, n, given, x.b[i]);
+    numbers[at] = i as u8;
+    atoms::set_row(assumed, at, a);
+    working::write_learned(left, right, rows, x.a[i], x.c[i], a);
+    Turned::More(Progress {
+        flats: p.flats,
+        steps: at + 1,
+        worlds: 0,
+        questions: p.questions + 1,
+        pair: Pair {
+            world: 0,
+            implication: 0,
+        },
+    })
+}
+
+// One turn of the fixed search.
+fn turn(
+    left: &mut [u64],
+    right: &mut [u64],
+    numbers: &mut [u8],
+    assumed: &mut [u64],
+    sets: &mut [u64],
+    n: u8,
+    goal: u8,
+    x: Implications,
+    p: Progress,
+) -> Turned
+    requires { ⌜ Usable n x × Working x (record { left = now left; right = now right; numbers = now numbers; assumed = now assumed; sets = now sets }) p × (p .questions < 513 * 258) ⌝ }
+    ensures { λ r. ⌜ TurnRight n goal x
+        (record { left = now (left .entry); right = now (right .entry); numbers = now (numbers .entry); assumed = now (assumed .entry); sets = now (sets .entry) }) p
+        (record { left = now (left .exit); right = now (right .exit); numbers = now (numbers .exit); assumed = now (assumed .exit); sets = now (sets .exit) }) r ⌝ }
+{
+    let worlds = p.worlds;
+    if worlds == 0 {
+        return begin(left, right, sets, n, goal, p);
+    }
+    let q = realization::next_pair(sets, worlds, x, p.pair);
+    let w = q.world;
+    if worlds <= w {
+        return Turned::Refuted;
+    }
+    let i = q.implication;
+    let given = atoms::row(sets, w).join(AtomSet::single(x.a[i]));
+    match sat::ask(left, right, p.flats + p.steps, n, given, x.b[i]) {
+        Answer::Countered(m) => grow(sets, p, q, m),
+        Answer::Proved => learn(left, right, numbers, assumed, n, x, i, given, p),
+    }
+}
