@@ -200,7 +200,7 @@ module _ (k : Book) (g : ℕ) (r : Reached k) where
       → Reached (record { n = k .n; flats = k .flats; implications = k .implications; steps = stepsAfter (k .steps) o })
   unfolding stepsAfter
   steps-reached (valid s) h f = with-steps (s .steps) f (h .grown .steps) (h .grown .witnessed)
-  steps-reached (refuted s) h f = with-steps (s .steps) f (h .grown .steps) (h .grown .witnessed)
+  steps-reached (refuted s) h f = with-steps (s .steps) (f .1) (h .grown .steps) (h .grown .witnessed)
   steps-reached (refused number) h f = r
   steps-reached unfinished h f = r
 

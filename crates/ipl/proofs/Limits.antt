@@ -25,22 +25,22 @@ use Rattle.ipl.proofs.Range.{ImplicationBelow}
 use Rattle.ipl.proofs.Witness.{Witnessed, witnessed-count}
 use Rattle.ipl.proofs.Search.{reached-standing, start-standing}
 
-abbrev Within : State → Type 0
+abbrev pub Within : State → Type 0
 Within s = (length (s .worlds) ≤ worldTable) × (length (s .steps) ≤ stepTable)
 
 -- How many turns there can be from S and W on.
-left : List Step → List ℕ → ℕ
+unfoldable pub left : List Step → List ℕ → ℕ
 left S W = (512 - length S) * 258 + (257 - length W)
 
 -- A turn at S and W ends in a verdict with the steps S, or comes closer to the end if it stays within the limits.
-abbrev Closer : List Step → List ℕ → Turn → Type 0
+abbrev pub Closer : List Step → List ℕ → Turn → Type 0
 Closer S W (done o) = T (isVerdict o)
 Closer S W (more s) = Within s → left (s .steps) (s .worlds) < left S W
 
--- What ends the search fits the step table where the state did.
+-- What ends the search fits the tables where the state did.
 abbrev pub Fits : Outcome → Type 0
 Fits (valid s) = length (s .steps) ≤ stepTable
-Fits (refuted s) = length (s .steps) ≤ stepTable
+Fits (refuted s) = Within s
 Fits (refused number) = Unit {0}
 Fits unfinished = Unit {0}
 
@@ -78,7 +78,7 @@ module _ (n : ℕ) (F : List Flat) (X : List Implication) (g : ℕ) where
   look-closer R S W q none = tt
   look-closer R S W q (some p) = resolve-closer R S W q p (ask n R (insert (p .world) (p .implication .a)) (p .implication .b))
 
-  turn-closer : (S : List Step) (W : List ℕ) (q : ℕ) → Closer S W (turn n F X g (record { steps = S; worlds = W; questions = q }))
+  pub turn-closer : (S : List Step) (W : List ℕ) (q : ℕ) → Closer S W (turn n F X g (record { steps = S; worlds = W; questions = q }))
   unfolding turn turnWith
   turn-closer S [] q = begin-closer S q (ask n (known F X S) 0 g)
   turn-closer S (w ∷ ws) q = look-closer (known F X S) S (w ∷ ws) q (firstUnrealized (w ∷ ws) X (w ∷ ws))
@@ -88,7 +88,7 @@ module _ (n : ℕ) (F : List Flat) (X : List Implication) (g : ℕ) where
   begin-fits S q h none = h
   begin-fits S q h (some m) = tt
 
-  look-fits : (R : List Flat) (S : List Step) (W : List ℕ) (q : ℕ) → length S ≤ stepTable → (o : Option Pair) → TurnFits (look n R (record { steps = S; worlds = W; questions = q }) o)
+  look-fits : (R : List Flat) (S : List Step) (W : List ℕ) (q : ℕ) → Within (record { steps = S; worlds = W; questions = q }) → (o : Option Pair) → TurnFits (look n R (record { steps = S; worlds = W; questions = q }) o)
   unfolding look
   look-fits R S W q h none = h
   look-fits R S W q h (some p) = go (ask n R (insert (p .world) (p .implication .a)) (p .implication .b))
@@ -97,9 +97,9 @@ module _ (n : ℕ) (F : List Flat) (X : List Implication) (g : ℕ) where
       go none = unfold resolve in tt
       go (some m) = unfold resolve in tt
 
-  turn-fits : (S : List Step) (W : List ℕ) (q : ℕ) → length S ≤ stepTable → TurnFits (turn n F X g (record { steps = S; worlds = W; questions = q }))
+  turn-fits : (S : List Step) (W : List ℕ) (q : ℕ) → Within (record { steps = S; worlds = W; questions = q }) → TurnFits (turn n F X g (record { steps = S; worlds = W; questions = q }))
   unfolding turn turnWith
-  turn-fits S [] q h = begin-fits S q h (ask n (known F X S) 0 g)
+  turn-fits S [] q h = begin-fits S q (h .1) (ask n (known F X S) 0 g)
   turn-fits S (w ∷ ws) q h = look-fits (known F X S) S (w ∷ ws) q h (firstUnrealized (w ∷ ws) X (w ∷ ws))
 
   -- ---- going on: a statement of the outcome by that of the rest, within the limits
@@ -129,19 +129,19 @@ module _ (n : ℕ) (F : List Flat) (X : List Implication) (g : ℕ) where
   unfolding search left
   search-ends H = run-ends (513 * 258) (start H) (omega arith)
 
-  -- ---- its steps fit their table
-  run-fits : (turns : ℕ) (s : State) → length (s .steps) ≤ stepTable → Fits (run n F X g turns s)
+  -- ---- its steps and worlds fit their tables
+  run-fits : (turns : ℕ) (s : State) → Within s → Fits (run n F X g turns s)
   unfolding run
   run-fits zero s h = tt
   run-fits (suc turns) s h = go (turn n F X g s) (turn-fits (s .steps) (s .worlds) (s .questions) h) (λ t k. run-fits turns t k)
     where
-      go : (t : Turn) → TurnFits t → ((t : State) → length (t .steps) ≤ stepTable → Fits (run n F X g turns t)) → Fits (goOn (run n F X g turns) t)
+      go : (t : Turn) → TurnFits t → ((t : State) → Within t → Fits (run n F X g turns t)) → Fits (goOn (run n F X g turns) t)
       go (done o) c ih = rw (go-on-done (run n F X g turns) o) c
-      go (more t) c ih = go-on-by Fits (run n F X g turns) t (λ _. tt) (λ _. tt) (λ w. ih t (w .1))
+      go (more t) c ih = go-on-by Fits (run n F X g turns) t (λ _. tt) (λ _. tt) (ih t)
 
   pub search-fits : (H : List Step) → length H ≤ stepTable → Fits (search n F X g H)
   unfolding search
-  search-fits H h = run-fits (513 * 258) (start H) h
+  search-fits H h = run-fits (513 * 258) (start H) (zero-le, h)
 
   -- ---- a verdict: every state reached is within the limits
   verdict-next : (turns : ℕ) (t : State) → T (isVerdict (goOn (run n F X g turns) (more t))) → Within t × T (isVerdict (run n F X g turns t))

@@ -5,3 +5,4 @@ pub mod Refusals
 pub mod Pairs
 pub mod Dropping
 pub mod Turns
+pub mod Runs

@@ -77,7 +77,7 @@ module _ (n g : ℕ) (x : Implications) (u : Usable n x) (t : Tables) (p : Progr
         (began-valid (h .0), ap (λ (s : List ℕ). record { left = t .left; right = t .right; numbers = t .numbers; assumed = t .assumed; sets = s }) (h .1))
     begin-right sets2 turned.Refuted h = absurd h
     begin-right sets2 (turned.Full k) h = absurd h
-    begin-right sets2 (turned.More q) h = rw (h .3) (next, joined, refl)
+    begin-right sets2 (turned.More q) h = rw (h .3) (next, joined, refl, refl)
       where
         next : turn n (flatsIn t p) (implicationsOf x) g (stateOf t p)
             ≡ more (record { steps = stepsIn t p; worlds = tabulate (rowOf sets2) 1; questions = p .questions + 1 })
@@ -214,6 +214,7 @@ module _ (n g : ℕ) (x : Implications) (u : Usable n x) (t : Tables) (p : Progr
                 grown ∙ ap₂ (λ (W : List ℕ) (c : ℕ). more (record { steps = stepsIn t p; worlds = W; questions = c })) (sym (worlds-more sets2 (h .0) (h .1))) (sym (add-one (p .questions))),
                 grown-working sets2 (h .0) (h .1),
                 refl,
+                refl,
               )
 
         -- ---- point 4
@@ -297,4 +298,5 @@ module _ (n g : ℕ) (x : Implications) (u : Usable n x) (t : Tables) (p : Progr
                 unfold tabulate in learnt ∙ ap₂ (λ (S : List Step) (c : ℕ). more (record { steps = S; worlds = []; questions = c })) (sym (steps-more t2 k j)) (sym (add-one (p .questions))),
                 learnt-working t2 k j,
                 flats-stay t2 k j,
+                refl,
               )

@@ -2,7 +2,7 @@
 use mathlib.Core.List.{List, []}
 use mathlib.Core.Option.{none, some}
 use mathlib.Core.Path.{_≡_}
-use Prim.Native.Nat.{ℕ, suc, _+_, _*_, _≤_, _<_, min}
+use Prim.Native.Nat.{ℕ, suc, _+_, _-_, _*_, _≤_, _<_, min}
 use lib.Dec.{T}
 use lib.ListN.{length, set}
 use Rattle.atoms.specs.Sets.{limit}
@@ -11,7 +11,7 @@ use Rattle.ipl.specs.Lists.{tabulate}
 use Rattle.ipl.specs.Clause.{Flat}
 use Rattle.ipl.specs.Range.{flatTable, implicationTable, stepTable, worldTable, implicationInRange}
 use Rattle.ipl.specs.Question.{ask}
-use Rattle.ipl.specs.Search.{Step, known, dropFrom, State, Outcome, valid, refuted, refused, done, more, goOn, turn}
+use Rattle.ipl.specs.Search.{Step, known, dropFrom, State, Outcome, valid, refuted, refused, done, more, goOn, turn, run}
 use Rattle.sat.specs.Table.{clauses}
 use Rattle.prover.specs.State.{byteAt, implicationRow, implicationsOf}
 use Rattle.prover.specs.Working.{Passed, proves, learnedRow}
@@ -20,6 +20,8 @@ use Rattle.prover.specs.declared.realization.Pair.{Pair}
 use Rattle.prover.specs.declared.question.Progress.{Progress}
 use Rattle.prover.specs.declared.question.Turned.{Turned}
 use Rattle.prover.specs.declared.question.Turned.the-variants as turned
+use Rattle.prover.specs.declared.question.End.{End}
+use Rattle.prover.specs.declared.question.End.the-variants as end
 
 -- The working tables: clauses known, steps, worlds.
 pub record Tables : Type 0 where
@@ -120,4 +122,27 @@ TurnRight n g x t p t2 turned.Valid =
 TurnRight n g x t p t2 turned.Refuted = (turn n (flatsIn t p) (implicationsOf x) g (stateOf t p) ≡ done (refuted (stateOf t p))) × (t2 ≡ t)
 TurnRight n g x t p t2 (turned.Full k) = (rest : State → Outcome) → goOn rest (turn n (flatsIn t p) (implicationsOf x) g (stateOf t p)) ≡ refused k
 TurnRight n g x t p t2 (turned.More q) =
-    (turn n (flatsIn t p) (implicationsOf x) g (stateOf t p) ≡ more (stateOf t2 q)) × Working x t2 q × (flatsIn t2 q ≡ flatsIn t p)
+    (turn n (flatsIn t p) (implicationsOf x) g (stateOf t p) ≡ more (stateOf t2 q)) × Working x t2 q × (flatsIn t2 q ≡ flatsIn t p) × (q .questions ≡ p .questions + 1)
+
+-- The turns that there can be from p on.
+abbrev pub turnsLeft : Progress → ℕ
+turnsLeft p = (512 - p .steps) * 258 + (257 - p .worlds)
+
+-- The turns from p on, over the flat clauses F, come to the outcome o.
+pub record Underway (n g : ℕ) (x : Implications) (F : List Flat) (o : Outcome) (t : Tables) (p : Progress) : Type 0 where
+  pub working : Working x t p
+  pub flats : flatsIn t p ≡ F
+  pub turns : p .questions + turnsLeft p < 513 * 258
+  pub rest : run n F (implicationsOf x) g (513 * 258 - p .questions) (stateOf t p) ≡ o
+
+-- Before the first turn: no world and no question.
+pub record Fresh (x : Implications) (t : Tables) (p : Progress) : Type 0 where
+  pub working : Working x t p
+  pub no-worlds : p .worlds ≡ 0
+  pub no-questions : p .questions ≡ 0
+
+-- The outcome o, as the tables hold it at the end.
+abbrev pub Ended : Outcome → Tables → End → Type 0
+Ended o t (end.Valid p) = (o ≡ valid (record { steps = stepsIn t p; worlds = []; questions = suc (p .questions) })) × (p .questions < 513 * 258)
+Ended o t (end.Refuted p) = (o ≡ refuted (stateOf t p)) × (p .questions < 513 * 258)
+Ended o t (end.Full k) = o ≡ refused k

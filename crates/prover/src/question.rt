@@ -8,7 +8,11 @@ use sat::Answer;
 ghost use Prim.Native.Nat.{ℕ, _*_, _≤_, _<_};
 ghost use mathlib.Core.List.{List};
 ghost use Rattle.atoms.specs.Words.{num};
-ghost use Rattle.prover.specs.Search.{Usable, Working, Began, Grew, LearnFits, Learned, TurnRight};
+ghost use Rattle.prover.specs.Search.{Usable, Working, Began, Grew, LearnFits, Learned, TurnRight, Fresh, stepIn, Ended};
+ghost use Rattle.ipl.specs.Lists.{tabulate};
+ghost use Rattle.ipl.specs.Search.{search};
+ghost use Rattle.sat.specs.Table.{clauses};
+ghost use Rattle.prover.specs.State.{implicationsOf};
 
 // Where the search stands in its tables: the counts, the questions so far, and the pair to look at next.
 pub struct Progress {
@@ -24,6 +28,13 @@ pub enum Turned {
     Refuted,
     Full(u8),
     More(Progress),
+}
+
+// How a search ends, and where; at a verdict of valid the last question is not yet counted.
+pub enum End {
+    Valid(Progress),
+    Refuted(Progress),
+    Full(u8),
 }
 
 // Point 1: valid, or the one world.
@@ -144,5 +155,41 @@ fn turn(
     match sat::ask(left, right, p.flats + p.steps, n, given, x.b[i]) {
         Answer::Countered(m) => grow(sets, p, q, m),
         Answer::Proved => learn(left, right, numbers, assumed, n, x, i, given, p),
+    }
+}
+
+// Turns, until the search ends.
+pub fn proceed(
+    left: &mut [u64],
+    right: &mut [u64],
+    numbers: &mut [u8],
+    assumed: &mut [u64],
+    sets: &mut [u64],
+    n: u8,
+    goal: u8,
+    x: Implications,
+    start: Progress,
+) -> End
+    requires { ⌜ Usable n x × Fresh x (record { left = now left; right = now right; numbers = now numbers; assumed = now assumed; sets = now sets }) start ⌝ }
+    ensures { λ r. ⌜ Ended
+      (search n (clauses (now (left .entry)) (now (right .entry)) (start .flats)) (implicationsOf x) goal (tabulate (stepIn (now (numbers .entry)) (now (assumed .entry))) (start .steps)))
+      (record { left = now (left .exit); right = now (right .exit); numbers = now (numbers .exit); assumed = now (assumed .exit); sets = now (sets .exit) }) r ⌝ }
+{
+    let mut p = start;
+    loop {
+        match turn(left, right, numbers, assumed, sets, n, goal, x, p) {
+            Turned::Valid => {
+                return End::Valid(p);
+            }
+            Turned::Refuted => {
+                return End::Refuted(p);
+            }
+            Turned::Full(k) => {
+                return End::Full(k);
+            }
+            Turned::More(q) => {
+                p = q;
+            }
+        }
     }
 }
