@@ -1,8 +1,11 @@
 -- Laws of the crate `prover`.
 pub mod Ranges
+pub mod Sessions
 pub mod Rows
 pub mod Refusals
 pub mod Pairs
 pub mod Dropping
+pub mod Known
 pub mod Turns
 pub mod Runs
+pub mod Answers

@@ -1,28 +1,28 @@
 -- Laws of the refusals' numbers: what a call that meets none may rely on.
-use mathlib.Core.Bool.{Bool, true, false, cond, _&&_}
+use mathlib.Core.Bool.{Bool, true, false, cond}
 use mathlib.Core.List.{List, [], _∷_, _++_, append-nil}
 use mathlib.Core.Logic.{_⊎_, inl, inr}
 use mathlib.Core.Path.{_≡_, refl, sym, ap, _∙_}
 use Prim.Native.Nat.{ℕ, _≤_, _<_}
 use native.Mathlib.Omega.{arith}
-use lib.Dec.{eqb, leb, leb→le}
+use lib.Dec.{eqb, leb}
 use lib.ListN.{length}
 use borrow.Author.Tests.{eqb-true, eq-eqb, ne-eqb}
 use Rattle.atoms.specs.Sets.{limit}
 use Rattle.atoms.specs.Words.{singleOrEmpty}
 use Rattle.atoms.proofs.Machine.{limit-small, single-bits, single-none}
-use Rattle.atoms.proofs.Truth.{T-left, T-right, true-T}
 use Rattle.ipl.specs.Clause.{bot, one, Flat, Implication, closing, closings}
 use Rattle.ipl.specs.Range.{flatTable, implicationTable}
-use Rattle.ipl.specs.Book.{countInRange, flatRefusal, implicationRefusal, flatsFull}
+use Rattle.ipl.specs.Book.{flatRefusal, implicationRefusal, flatsFull}
 use Rattle.ipl.proofs.Lists.{tabulate-length}
 use Rattle.ipl.proofs.Range.{AtomOrBot, implication-below}
 use Rattle.ipl.proofs.Book.{flat-unrefused, ImplicationUnrefused, implication-unrefused}
 use Rattle.sat.specs.Table.{clauseAt, clauses}
 use Rattle.prover.specs.State.{implicationRow, flatsOf, implicationsOf, book}
-use Rattle.prover.specs.InRange.{flatsInRange, implicationsInRange, stepsInRange, worldsInRange, heldInRange, inRange}
+use Rattle.prover.specs.InRange.{inRange}
 use Rattle.prover.specs.Calls.{number, flatNumber, implicationNumber, ClosingFits}
 use Rattle.prover.specs.declared.Session.{Session}
+use Rattle.prover.proofs.Sessions.{few-atoms}
 
 pub clauses-length : (left right : List ℕ) (count : ℕ) → length (clauses left right count) ≡ count
 unfolding clauses
@@ -35,16 +35,6 @@ number-zero s k = go (inRange s)
     go : (b : Bool) → cond b k 5 ≡ 0 → (b ≡ true) × (k ≡ 0)
     go true e = (refl, e)
     go false e = absurd (omega arith)
-
-pub few-atoms : (s : Session) → inRange s ≡ true → s .n ≤ limit
-unfolding inRange countInRange
-few-atoms s e =
-    leb→le (s .n) limit (T-right (leb 1 (s .n)) (leb (s .n) limit)
-    (T-left (leb 1 (s .n) && leb (s .n) limit)
-    (flatsInRange (s .n) (s .flats)
-    && (implicationsInRange (s .n) (s .implications)
-    && (stepsInRange (s .n) (s .implications .count) (s .steps) && (worldsInRange (s .n) (s .worlds) && heldInRange (s .n) (s .held)))))
-    (true-T e)))
 
 pub flat-room : (s : Session) (f : Flat) → flatNumber s f ≡ 0 → s .flats .count < flatTable
 flat-room s f e =

@@ -9,11 +9,11 @@ use Rattle.atoms.specs.Words.{rowOf}
 use Rattle.ipl.specs.Lists.{tabulate}
 use Rattle.ipl.specs.Clause.{Flat}
 use Rattle.ipl.specs.Range.{worldTable, stepTable}
-use Rattle.ipl.specs.Search.{Step, State, Outcome, valid, refuted, refused, Turn, done, more, goOn, turn, run, start, search}
+use Rattle.ipl.specs.Search.{State, Outcome, valid, refuted, refused, done, more, goOn, turn, run, search}
 use Rattle.ipl.proofs.Lists.{tabulate-length}
 use Rattle.ipl.proofs.Limits.{left, Closer, turn-closer}
 use Rattle.prover.specs.State.{implicationsOf}
-use Rattle.prover.specs.Search.{Tables, flatsIn, stepIn, stepsIn, worldsIn, stateOf, Working, TurnRight, turnsLeft, Underway, Fresh, Ended}
+use Rattle.prover.specs.Search.{Tables, flatsIn, stepIn, stepsIn, worldsIn, stateOf, TurnRight, turnsLeft, Underway, Fresh, Ended}
 use Rattle.prover.specs.declared.Implications.{Implications}
 use Rattle.prover.specs.declared.question.Progress.{Progress}
 use Rattle.prover.specs.declared.question.Turned.{Turned}

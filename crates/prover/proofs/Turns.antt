@@ -11,33 +11,33 @@ use native.Mathlib.Omega.{arith}
 use lib.Dec.{T}
 use lib.ListN.{length, length-append, length-set}
 use borrow.Author.Tests.{lt-ltb}
-use Rattle.atoms.specs.Sets.{has, limit, union, minus, insert}
+use Rattle.atoms.specs.Sets.{has, limit, union, insert}
 use Rattle.atoms.specs.Words.{rowOf, rowCount, singleOrEmpty, RowSet}
 use Rattle.atoms.proofs.Machine.{same-rows, single-bits}
 use Rattle.atoms.proofs.Truth.{T-or, T-inl, T-inr}
 use mathlib.Core.Logic.{inl, inr}
 use Rattle.ipl.specs.Lists.{any, tabulate}
-use Rattle.ipl.specs.Clause.{one, Flat, Implication, beyond, realizes, learned}
+use Rattle.ipl.specs.Clause.{one, Flat, Implication, beyond, realizes}
 use Rattle.ipl.specs.Range.{worldTable, stepTable}
 use Rattle.ipl.specs.Question.{ask}
 use Rattle.ipl.specs.Search as S
 use Rattle.ipl.specs.Search.{Step, clauseOf, known, firstUnrealized, dropFrom, State, Outcome, valid, refused, done, more, begin, stepAt, resolve, look, goOn, turnWith, turn}
-use Rattle.ipl.proofs.Lists.{tabulate-length, tabulate-at, tabulate-same, any-left}
+use Rattle.ipl.proofs.Lists.{tabulate-length, tabulate-same, any-left}
 use Rattle.ipl.proofs.Range.{ImplicationBelow, implication-below}
 use Rattle.ipl.proofs.Steps.{known-snoc}
 use Rattle.sat.specs.Table.{clauseAt, clauses}
 use Rattle.prover.specs.State.{byteAt, implicationRow, implicationsOf}
-use Rattle.prover.specs.Working.{realizedAt, Passed, NextPair, proves, learnedRow}
-use Rattle.prover.specs.Search.{Tables, flatsIn, knownIn, stepIn, stepsIn, worldsIn, stateOf, Usable, Working, Began, Grew, StepJoined, Learned, TurnRight}
+use Rattle.prover.specs.Working.{Usable, realizedAt, Passed, NextPair, proves, learnedRow}
+use Rattle.prover.specs.Search.{Tables, flatsIn, knownIn, stepIn, stepsIn, worldsIn, stateOf, Working, Began, Grew, StepJoined, Learned, TurnRight}
 use Rattle.prover.specs.declared.Implications.{Implications}
 use Rattle.prover.specs.declared.realization.Pair.{Pair}
 use Rattle.prover.specs.declared.question.Progress.{Progress}
 use Rattle.prover.specs.declared.question.Turned.{Turned}
 use Rattle.prover.specs.declared.question.Turned.the-variants as turned
 use Rattle.prover.proofs.Rows.{tabulate-more, clauses-more, byte-other, byte-same}
-use Rattle.prover.proofs.Refusals.{single-one}
 use Rattle.prover.proofs.Dropping.{ask-min}
 use Rattle.prover.proofs.Pairs.{pair-found, pair-none}
+use Rattle.prover.proofs.Known.{learned-row}
 
 -- Clauses whose rows stayed.
 clauses-same : (left right left2 right2 : List ℕ) (k : ℕ) → ((i : ℕ) → i < k → rowOf left2 i ≡ rowOf left i) → ((i : ℕ) → i < k → rowOf right2 i ≡ rowOf right i)
@@ -252,14 +252,6 @@ module _ (n g : ℕ) (x : Implications) (u : Usable n x) (t : Tables) (p : Progr
             flats-stay : clauses (t2 .left) (t2 .right) (p .flats) ≡ flatsIn t p
             flats-stay = clauses-same (t .left) (t .right) (t2 .left) (t2 .right) (p .flats) (λ i h. j .left .others i (λ d. omega arith)) (λ i h. j .right .others i (λ d. omega arith))
 
-            -- The row written is the clause of the step.
-            row-is : learnedRow x (q .implication) (j .A) ≡ clauseOf (implicationsOf x) (record { number = q .implication; assumed = j .A })
-            unfolding clauseOf learned
-            row-is =
-                rw (tabulate-at (implicationRow x) (record { a = 0; b = 0; c = 0 }) (x .count) (q .implication) number)
-                (ap₂ (λ (a b : ℕ). record { left = minus (j .A) a; right = b }) (single-bits (byteAt (x .a) (q .implication)) (omega (arith, below .a, u .few)))
-                (single-one n (byteAt (x .c) (q .implication)) (u .few) (below .c)))
-
             rows-more : clauses (t2 .left) (t2 .right) (p .flats + p .steps + 1) ≡ knownIn t p ++ (learnedRow x (q .implication) (j .A) ∷ [])
             rows-more =
                 clauses-more (t .left) (t .right) (t2 .left) (t2 .right) (p .flats + p .steps) _ _ (j .left) (j .right)
@@ -269,7 +261,7 @@ module _ (n g : ℕ) (x : Implications) (u : Usable n x) (t : Tables) (p : Progr
                 ≡ known (clauses (t2 .left) (t2 .right) (p .flats)) (implicationsOf x) (tabulate (stepIn (t2 .numbers) (t2 .assumed)) (p .steps + 1))
             known-more =
                 ap (clauses (t2 .left) (t2 .right)) (sym (add-assoc (p .flats) (p .steps) 1)) ∙ rows-more
-                ∙ ap₂ (λ (R : List Flat) (f : Flat). R ++ (f ∷ [])) (w .known-rows) (row-is ∙ ap (clauseOf (implicationsOf x)) step-is)
+                ∙ ap₂ (λ (R : List Flat) (f : Flat). R ++ (f ∷ [])) (w .known-rows) (learned-row n x u (q .implication) (j .A) number ∙ ap (clauseOf (implicationsOf x)) step-is)
                 ∙ sym (known-snoc (flatsIn t p) (implicationsOf x) (stepsIn t p) step)
                 ∙ sym (ap₂ (λ (F : List Flat) (S : List Step). known F (implicationsOf x) S) flats-stay steps-more)
 

@@ -3,17 +3,16 @@ use mathlib.Core.List.{List, []}
 use mathlib.Core.Option.{none, some}
 use mathlib.Core.Path.{_≡_}
 use Prim.Native.Nat.{ℕ, suc, _+_, _-_, _*_, _≤_, _<_, min}
-use lib.Dec.{T}
 use lib.ListN.{length, set}
 use Rattle.atoms.specs.Sets.{limit}
 use Rattle.atoms.specs.Words.{rowOf, rowCount, RowSet}
 use Rattle.ipl.specs.Lists.{tabulate}
 use Rattle.ipl.specs.Clause.{Flat}
-use Rattle.ipl.specs.Range.{flatTable, implicationTable, stepTable, worldTable, implicationInRange}
+use Rattle.ipl.specs.Range.{flatTable, implicationTable, stepTable, worldTable}
 use Rattle.ipl.specs.Question.{ask}
 use Rattle.ipl.specs.Search.{Step, known, dropFrom, State, Outcome, valid, refuted, refused, done, more, goOn, turn, run}
 use Rattle.sat.specs.Table.{clauses}
-use Rattle.prover.specs.State.{byteAt, implicationRow, implicationsOf}
+use Rattle.prover.specs.State.{byteAt, implicationsOf}
 use Rattle.prover.specs.Working.{Passed, proves, learnedRow}
 use Rattle.prover.specs.declared.Implications.{Implications}
 use Rattle.prover.specs.declared.realization.Pair.{Pair}
@@ -50,12 +49,6 @@ worldsIn t p = tabulate (rowOf (t .sets)) (p .worlds)
 -- The state of the definition that they stand for.
 abbrev pub stateOf : Tables → Progress → State
 stateOf t p = record { steps = stepsIn t p; worlds = worldsIn t p; questions = p .questions }
-
--- The implications are in range over n atoms.
-pub record Usable (n : ℕ) (x : Implications) : Type 0 where
-  pub few : n ≤ limit
-  pub count : x .count ≤ implicationTable
-  pub rows : (i : ℕ) → i < x .count → T (implicationInRange n (implicationRow x i))
 
 pub record Working (x : Implications) (t : Tables) (p : Progress) : Type 0 where
   pub left-rows : rowCount (t .left) ≡ 1024

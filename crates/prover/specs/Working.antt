@@ -5,18 +5,25 @@ use mathlib.Core.Path.{_≡_}
 use Prim.Native.Nat.{ℕ, _+_, _≤_, _<_}
 use lib.Dec.{T}
 use lib.ListN.{length}
-use Rattle.atoms.specs.Sets.{minus}
+use Rattle.atoms.specs.Sets.{limit, minus}
 use Rattle.atoms.specs.Words.{rowOf, rowCount, singleOrEmpty}
 use Rattle.ipl.specs.Lists.{tabulate}
 use Rattle.ipl.specs.Clause.{Flat, realizes}
 use Rattle.ipl.specs.Question.{ask}
-use Rattle.ipl.specs.Search.{isNone}
-use Rattle.ipl.specs.Range.{flatTable, stepTable, implicationTable}
-use Rattle.prover.specs.State.{byteAt, implicationRow}
-use Rattle.sat.specs.Table.{clauseAt}
+use Rattle.ipl.specs.Search.{isNone, known}
+use Rattle.ipl.specs.Range.{flatTable, stepTable, implicationTable, implicationInRange}
+use Rattle.prover.specs.State.{byteAt, implicationRow, flatsOf, implicationsOf, stepsOf}
+use Rattle.sat.specs.Table.{clauseAt, clauses}
+use Rattle.prover.specs.declared.Flats.{Flats}
 use Rattle.prover.specs.declared.Implications.{Implications}
 use Rattle.prover.specs.declared.Steps.{Steps}
 use Rattle.prover.specs.declared.realization.Pair.{Pair}
+
+-- The implications are in range over n atoms.
+pub record Usable (n : ℕ) (x : Implications) : Type 0 where
+  pub few : n ≤ limit
+  pub count : x .count ≤ implicationTable
+  pub rows : (i : ℕ) → i < x .count → T (implicationInRange n (implicationRow x i))
 
 -- World w realizes implication i within the first `count` worlds.
 abbrev pub realizedAt : List ℕ → ℕ → Implications → ℕ → ℕ → Bool
@@ -69,3 +76,10 @@ pub record StepsWritten (left right : List ℕ) (flats : ℕ) (steps : Steps) (x
   pub right-size : length right2 ≡ length right
   pub flats-stay : (i : ℕ) → i < flats → clauseAt left2 right2 i ≡ clauseAt left right i
   pub learned-follow : (j : ℕ) → j < k → clauseAt left2 right2 (flats + j) ≡ learnedRow x (byteAt (steps .numbers) j) (rowOf (steps .assumed) j)
+
+-- All clauses known are in the tables: the flat clauses, then those of the steps.
+pub record KnownWritten (left right : List ℕ) (flats : Flats) (steps : Steps) (x : Implications) (left2 right2 : List ℕ) : Type 0 where
+  pub left-size : length left2 ≡ length left
+  pub right-size : length right2 ≡ length right
+  pub flat-rows : clauses left2 right2 (flats .count) ≡ flatsOf flats
+  pub known-rows : clauses left2 right2 (flats .count + steps .count) ≡ known (flatsOf flats) (implicationsOf x) (stepsOf steps)

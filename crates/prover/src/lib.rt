@@ -1,11 +1,12 @@
 // A session: it holds clauses, decides whether they force a goal, and keeps what it learned.
 use atoms::AtomSet;
-ghost use Rattle.prover.specs.Calls.{Opened, FlatAdded, ImplicationAdded};
+ghost use Rattle.prover.specs.Calls.{Opened, FlatAdded, ImplicationAdded, Asked};
 
 mod additions;
 mod question;
 mod range;
 mod realization;
+mod settling;
 mod working;
 
 pub struct Flats {
@@ -57,6 +58,19 @@ pub struct Changed {
     pub session: Session,
 }
 
+// Valid, with the count of steps held; refuted, with the count of worlds; or the number of a refusal.
+pub enum Verdict {
+    Valid(usize),
+    Refuted(usize),
+    Refused(u8),
+}
+
+// The answer to a question, and the session that the caller goes on with.
+pub struct Answered {
+    pub verdict: Verdict,
+    pub session: Session,
+}
+
 // A session of n atoms. Refused 5: the empty session of one atom.
 pub fn open(n: u8) -> Changed
     ensures { λ r. ⌜ Opened n r ⌝ }
@@ -105,6 +119,21 @@ pub fn add_implication(s: Session, a: u8, b: u8, c: u8) -> Changed
     } else {
         Changed {
             refusal,
+            session: s,
+        }
+    }
+}
+
+// Do the clauses force the goal? Refused 5, 6, 11, 12: the session as given.
+pub fn ask(s: Session, goal: u8) -> Answered
+    ensures { λ r. ⌜ Asked s goal r ⌝ }
+{
+    let refusal = range::goal_refusal(s, goal);
+    if refusal == 0 {
+        settling::settle(s, goal)
+    } else {
+        Answered {
+            verdict: Verdict::Refused(refusal),
             session: s,
         }
     }

@@ -8,11 +8,12 @@ use sat::Answer;
 ghost use Prim.Native.Nat.{ℕ, _*_, _≤_, _<_};
 ghost use mathlib.Core.List.{List};
 ghost use Rattle.atoms.specs.Words.{num};
-ghost use Rattle.prover.specs.Search.{Usable, Working, Began, Grew, LearnFits, Learned, TurnRight, Fresh, stepIn, Ended};
+ghost use Rattle.prover.specs.Search.{Working, Began, Grew, LearnFits, Learned, TurnRight, Fresh, stepIn, Ended};
 ghost use Rattle.ipl.specs.Lists.{tabulate};
 ghost use Rattle.ipl.specs.Search.{search};
 ghost use Rattle.sat.specs.Table.{clauses};
 ghost use Rattle.prover.specs.State.{implicationsOf};
+ghost use Rattle.prover.specs.Working.{Usable};
 
 // Where the search stands in its tables: the counts, the questions so far, and the pair to look at next.
 pub struct Progress {
@@ -172,8 +173,8 @@ pub fn proceed(
 ) -> End
     requires { ⌜ Usable n x × Fresh x (record { left = now left; right = now right; numbers = now numbers; assumed = now assumed; sets = now sets }) start ⌝ }
     ensures { λ r. ⌜ Ended
-      (search n (clauses (now (left .entry)) (now (right .entry)) (start .flats)) (implicationsOf x) goal (tabulate (stepIn (now (numbers .entry)) (now (assumed .entry))) (start .steps)))
-      (record { left = now (left .exit); right = now (right .exit); numbers = now (numbers .exit); assumed = now (assumed .exit); sets = now (sets .exit) }) r ⌝ }
+        (search n (clauses (now (left .entry)) (now (right .entry)) (start .flats)) (implicationsOf x) goal (tabulate (stepIn (now (numbers .entry)) (now (assumed .entry))) (start .steps)))
+        (record { left = now (left .exit); right = now (right .exit); numbers = now (numbers .exit); assumed = now (assumed .exit); sets = now (sets .exit) }) r ⌝ }
 {
     let mut p = start;
     loop {

@@ -17,7 +17,7 @@ ghost use Rattle.ipl.specs.Clause.{bot};
 ghost use Rattle.ipl.specs.Range.{flatTable, atomOrBot, setInRange};
 ghost use Rattle.ipl.specs.Book.{countInRange};
 ghost use Rattle.prover.specs.State.{byteAt};
-ghost use Rattle.prover.specs.Calls.{flatOf, flatNumber, implicationNumber};
+ghost use Rattle.prover.specs.Calls.{flatOf, flatNumber, implicationNumber, goalNumber};
 ghost use Rattle.prover.specs.InRange.{flatsInRange, implicationsInRange, stepsInRange, worldsInRange, heldInRange, inRange};
 
 pub fn count_in_range(n: u8) -> bool
@@ -224,4 +224,14 @@ pub fn implication_refusal(s: Session, a: u8, b: u8, c: u8) -> u8
         return 8;
     }
     0
+}
+
+// The number of the refusal that a goal meets before the search, or 0.
+pub fn goal_refusal(s: Session, goal: u8) -> u8
+    ensures { λ r. ⌜ r ≡ goalNumber s goal ⌝ }
+{
+    if !in_range(s) {
+        return 5;
+    }
+    if atom_or_bot(goal, s.n) { 0 } else { 6 }
 }

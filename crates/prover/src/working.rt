@@ -1,15 +1,16 @@
 // The working tables of a question: all clauses known, the steps and the worlds.
+use super::Flats;
 use super::Implications;
 use super::Steps;
 use atoms::AtomSet;
 use sat::Answer;
 ghost use mathlib.Core.Path.{_≡_};
-ghost use Prim.Native.Nat.{_≤_, _<_};
+ghost use Prim.Native.Nat.{ℕ, _≤_, _<_};
 ghost use Rattle.atoms.specs.Sets.{limit, minus};
 ghost use Rattle.atoms.specs.Words.{num, rowCount, singleOrEmpty, RowSet};
 ghost use Rattle.ipl.specs.Search.{dropOne, dropFrom};
 ghost use Rattle.sat.specs.Table.{clauses};
-ghost use Rattle.prover.specs.Working.{proves, Copied, StepsFit, StepsWritten};
+ghost use Rattle.prover.specs.Working.{Usable, proves, Copied, StepsFit, StepsWritten, KnownWritten};
 
 // A without the atom k, where the rest still proves `asked`.
 fn drop_atom<'a>(
@@ -56,7 +57,7 @@ pub fn drop_atoms<'a>(
 }
 
 // Copies the first `count` rows.
-pub fn copy_rows(from: &[u64], to: &mut [u64], count: usize)
+fn copy_rows(from: &[u64], to: &mut [u64], count: usize)
     requires { ⌜ count ≤ rowCount (now to) ⌝ }
     ensures { λ _. ⌜ Copied (now (from .entry)) (now (to .entry)) count (now (to .exit)) ⌝ }
 {
@@ -76,7 +77,7 @@ pub fn write_learned(left: &mut [u64], right: &mut [u64], at: usize, a: u8, c: u
 }
 
 // Writes the clauses of the held steps after the flat clauses.
-pub fn write_steps(left: &mut [u64], right: &mut [u64], flats: usize, steps: Steps, x: Implications)
+fn write_steps(left: &mut [u64], right: &mut [u64], flats: usize, steps: Steps, x: Implications)
     requires { ⌜ StepsFit (now left) (now right) flats steps x ⌝ }
     ensures { λ _. ⌜ StepsWritten (now (left .entry)) (now (right .entry)) flats steps x (steps .count) (now (left .exit)) (now (right .exit)) ⌝ }
 {
@@ -93,4 +94,15 @@ pub fn write_steps(left: &mut [u64], right: &mut [u64], flats: usize, steps: Ste
         );
         k += 1;
     }
+}
+
+// Writes all clauses known: the flat clauses, and the clauses of the held steps after them.
+pub fn write_known(left: &mut [u64], right: &mut [u64], flats: Flats, steps: Steps, x: Implications)
+    requires { ⌜ StepsFit (now left) (now right) (flats .count) steps x ⌝ }
+    ensures { λ _. ⌜ ((n : ℕ) → Usable n x → KnownWritten (now (left .entry)) (now (right .entry)) flats steps x (now (left .exit)) (now (right .exit))) ⌝ }
+{
+    let count = flats.count;
+    copy_rows(&flats.left, left, count);
+    copy_rows(&flats.right, right, count);
+    write_steps(left, right, count, steps, x);
 }

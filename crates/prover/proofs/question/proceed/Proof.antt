@@ -13,7 +13,7 @@ use Rattle.prover.proofs.question.proceed.Statement.{statement}
 use Rattle.prover.proofs.question.proceed.Tie as tie
 
 abbrev Inv-loop : tie.InvT-loop
-Inv-loop left₀ right₀ numbers₀ assumed₀ sets₀ n goal x p₀ left right numbers assumed sets p = 
+Inv-loop left₀ right₀ numbers₀ assumed₀ sets₀ n goal x p₀ left right numbers assumed sets p =
     Underway n goal x (clauses left₀ right₀ (p₀ .flats)) (S.search n (clauses left₀ right₀ (p₀ .flats)) (implicationsOf x) goal (tabulate (stepIn numbers₀ assumed₀) (p₀ .steps))) (record { left = left; right = right; numbers = numbers; assumed = assumed; sets = sets }) p
     × (length left ≡ length left₀) × (length right ≡ length right₀) × (length numbers ≡ length numbers₀) × (length assumed ≡ length assumed₀) × (length sets ≡ length sets₀)
 

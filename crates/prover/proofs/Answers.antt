@@ -1,0 +1,89 @@
+-- Laws of a question's answer: the end of its search, and the number of its refusal.
+use mathlib.Core.Bool.{Bool, true, false, cond}
+use mathlib.Core.List.{List, []}
+use mathlib.Core.Path.{_≡_, refl, sym, ap, _∙_, subst}
+use Prim.Native.Nat.{ℕ, _+_, _*_, _<_}
+use native.Mathlib.Numerals.{add-one}
+use native.Mathlib.Omega.{arith}
+use Rattle.atoms.specs.Words.{rowOf}
+use Rattle.ipl.specs.Lists.{tabulate}
+use Rattle.ipl.specs.Clause.{Flat}
+use Rattle.ipl.specs.Range.{atomOrBot}
+use Rattle.ipl.specs.Search.{Outcome, refused, search}
+use Rattle.ipl.specs.Book.{answer}
+use Rattle.ipl.proofs.Lists.{tabulate-length}
+use Rattle.prover.specs.State.{flatsOf, implicationsOf, stepsOf}
+use Rattle.prover.specs.InRange.{inRange}
+use Rattle.prover.specs.Calls.{goalNumber, outcome, Answer, AskedAs, Asked}
+use Rattle.prover.specs.Search.{Tables, stepIn, stepsIn, stateOf, Ended}
+use Rattle.prover.specs.declared.Session.{Session}
+use Rattle.prover.specs.declared.Answered.{Answered}
+use Rattle.prover.specs.declared.Held.the-variants as held
+use Rattle.prover.specs.declared.Verdict.the-variants as verdict
+use Rattle.prover.specs.declared.question.Progress.{Progress}
+use Rattle.prover.specs.declared.question.End.{End}
+use Rattle.prover.specs.declared.question.End.the-variants as end
+use Rattle.prover.proofs.Refusals.{number-zero}
+
+-- The whole search over the session's clauses.
+abbrev whole : Session → ℕ → List Flat → Outcome
+whole s g F = search (s .n) F (implicationsOf (s .implications)) g (stepsOf (s .steps))
+
+-- ---- the search's end
+pub few-valid : (o : Outcome) (t : Tables) (e : End) → Ended o t e → (p : Progress) → e ≡ end.Valid p → p .questions < 513 * 258
+few-valid o t e h p r = subst (Ended o t) r h .1
+
+pub few-refuted : (o : Outcome) (t : Tables) (e : End) → Ended o t e → (p : Progress) → e ≡ end.Refuted p → p .questions < 513 * 258
+few-refuted o t e h p r = subst (Ended o t) r h .1
+
+-- In tables whose flat clauses are those of the session.
+module _ (s : Session) (g : ℕ) (F : List Flat) (t : Tables) (e : End) (h : Ended (whole s g F) t e) (same : F ≡ flatsOf (s .flats)) where
+  ended : Ended (whole s g (flatsOf (s .flats))) t e
+  ended = subst (λ (F : List Flat). Ended (whole s g F) t e) same h
+
+  pub valid-asked : (p : Progress) → e ≡ end.Valid p → (r : Session)
+      → Answer s (record { steps = stepsIn t p; worlds = tabulate (rowOf (t .sets)) 0; questions = p .questions + 1 }) (held.Valid g) r
+      → AskedAs s g (whole s g (flatsOf (s .flats))) (record { verdict = verdict.Valid (p .steps); session = r })
+  unfolding tabulate
+  valid-asked p r next a =
+      subst (λ (o : Outcome). AskedAs s g o (record { verdict = verdict.Valid (p .steps); session = next })) (sym (subst (Ended (whole s g (flatsOf (s .flats))) t) r ended .0)) (
+        ap verdict.Valid (sym (tabulate-length (stepIn (t .numbers) (t .assumed)) (p .steps))),
+        subst (λ (q : ℕ). Answer s (record { steps = stepsIn t p; worlds = []; questions = q }) (held.Valid g) next) (add-one (p .questions)) a,
+      )
+
+  pub refuted-asked : (p : Progress) → e ≡ end.Refuted p → (r : Session) → Answer s (stateOf t p) (held.Refuted g) r
+      → AskedAs s g (whole s g (flatsOf (s .flats))) (record { verdict = verdict.Refuted (p .worlds); session = r })
+  refuted-asked p r next a =
+      subst (λ (o : Outcome). AskedAs s g o (record { verdict = verdict.Refuted (p .worlds); session = next })) (sym (subst (Ended (whole s g (flatsOf (s .flats))) t) r ended .0))
+      (ap verdict.Refuted (sym (tabulate-length (rowOf (t .sets)) (p .worlds))), a)
+
+  pub full-asked : (k : ℕ) → e ≡ end.Full k → AskedAs s g (whole s g (flatsOf (s .flats))) (record { verdict = verdict.Refused k; session = s })
+  full-asked k r =
+      subst (λ (o : Outcome). AskedAs s g o (record { verdict = verdict.Refused k; session = s })) (sym (subst (Ended (whole s g (flatsOf (s .flats))) t) r ended))
+      (refl, refl)
+
+-- ---- the refusals before the search
+pub goal-zero : (s : Session) (g : ℕ) → goalNumber s g ≡ 0 → (inRange s ≡ true) × (atomOrBot (s .n) g ≡ true)
+goal-zero s g e = let z = number-zero s (cond (atomOrBot (s .n) g) 0 6) e in (z .0, go (atomOrBot (s .n) g) (z .1))
+  where
+    go : (b : Bool) → _≡_ {A = ℕ} (cond b 0 6) 0 → b ≡ true
+    go true e = refl
+    go false e = absurd (omega arith)
+
+pub asked-whole : (s : Session) (g : ℕ) → goalNumber s g ≡ 0 → (r : Answered) → AskedAs s g (whole s g (flatsOf (s .flats))) r → Asked s g r
+unfolding answer
+asked-whole s g e r a = rw (goal-zero s g e .0, goal-zero s g e .1) a
+
+refused-outcome : (s : Session) (g : ℕ) → (goalNumber s g ≡ 0 → ⊥) → outcome s g ≡ refused (goalNumber s g)
+unfolding answer
+refused-outcome s g = go (inRange s) (atomOrBot (s .n) g)
+  where
+    go : (a b : Bool) → (_≡_ {A = ℕ} (cond a (cond b 0 6) 5) 0 → ⊥) → _≡_ {A = Outcome} (cond a (cond b (whole s g (flatsOf (s .flats))) (refused 6)) (refused 5)) (refused (cond a (cond b 0 6) 5))
+    go true true d = absurd (d refl)
+    go true false d = refl
+    go false b d = refl
+
+pub asked-refused : (s : Session) (g k : ℕ) → k ≡ goalNumber s g → (k ≡ 0 → ⊥) → Asked s g (record { verdict = verdict.Refused k; session = s })
+asked-refused s g k e d =
+    subst (λ (o : Outcome). AskedAs s g o (record { verdict = verdict.Refused k; session = s })) (sym (refused-outcome s g (λ z. d (e ∙ z))))
+    (ap verdict.Refused e, refl)
