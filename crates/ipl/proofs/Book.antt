@@ -199,7 +199,7 @@ module _ (k : Book) (g : ℕ) (r : Reached k) where
   steps-reached : (o : Outcome) → OutcomeRight (k .n) (k .flats) (k .implications) g (k .steps) o → Fits o
       → Reached (record { n = k .n; flats = k .flats; implications = k .implications; steps = stepsAfter (k .steps) o })
   unfolding stepsAfter
-  steps-reached (valid s) h f = with-steps (s .steps) f (h .grown .steps) (h .grown .witnessed)
+  steps-reached (valid s) h f = with-steps (s .steps) (f .0) (h .grown .steps) (h .grown .witnessed)
   steps-reached (refuted s) h f = with-steps (s .steps) (f .1) (h .grown .steps) (h .grown .witnessed)
   steps-reached (refused number) h f = r
   steps-reached unfinished h f = r
@@ -212,7 +212,14 @@ module _ (k : Book) (g : ℕ) (r : Reached k) where
       (λ _. steps-reached outcome outcome-right (search-fits (k .n) (k .flats) (k .implications) g (k .steps) (r .well-formed .step-count)))
       (λ _. steps-reached (refused 6) tt tt)
 
-  -- ---- the answer to a question whose goal is in range
+  -- ---- the answer to a question
+  pub answer-right : OutcomeRight (k .n) (k .flats) (k .implications) g (k .steps) (answer k g) × Fits (answer k g)
+  unfolding answer
+  answer-right =
+      by-cond (λ o. OutcomeRight (k .n) (k .flats) (k .implications) g (k .steps) o × Fits o) (atomOrBot (k .n) g) outcome (refused 6)
+      (λ _. (outcome-right, search-fits (k .n) (k .flats) (k .implications) g (k .steps) (r .well-formed .step-count))) (λ _. (tt, tt))
+
+  -- ---- and to one whose goal is in range
   module _ (in-range : AtomOrBot (k .n) g) where
     few : k .n ≤ bot
     few = le-trans (r .well-formed .few) limit-small
@@ -280,7 +287,7 @@ answered k (addFlat f) r = tt
 answered k (addImplication i) r = tt
 answered k (question g) r = question-settled k g r
 
-claims : (cs : List Call) (k : Book) → Reached k → Claims k cs
+pub claims : (cs : List Call) (k : Book) → Reached k → Claims k cs
 claims [] k r = r .well-formed
 claims (c ∷ cs) k r = (
   record { well-formed = r .well-formed; refused-unchanged = refused-unchanged k c; answered = answered k c r },

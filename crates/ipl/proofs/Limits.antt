@@ -39,7 +39,7 @@ Closer S W (more s) = Within s → left (s .steps) (s .worlds) < left S W
 
 -- What ends the search fits the tables where the state did.
 abbrev pub Fits : Outcome → Type 0
-Fits (valid s) = length (s .steps) ≤ stepTable
+Fits (valid s) = (length (s .steps) ≤ stepTable) × (s .worlds ≡ [])
 Fits (refuted s) = Within s
 Fits (refused number) = Unit {0}
 Fits unfinished = Unit {0}
@@ -85,7 +85,7 @@ module _ (n : ℕ) (F : List Flat) (X : List Implication) (g : ℕ) where
 
   begin-fits : (S : List Step) (q : ℕ) → length S ≤ stepTable → (o : Option ℕ) → TurnFits (begin (record { steps = S; worlds = []; questions = q }) o)
   unfolding begin
-  begin-fits S q h none = h
+  begin-fits S q h none = (h, refl)
   begin-fits S q h (some m) = tt
 
   look-fits : (R : List Flat) (S : List Step) (W : List ℕ) (q : ℕ) → Within (record { steps = S; worlds = W; questions = q }) → (o : Option Pair) → TurnFits (look n R (record { steps = S; worlds = W; questions = q }) o)

@@ -2,7 +2,7 @@
 -- of every model of the clauses (source 000, Proposition 1).
 use mathlib.Core.List.{List, [], _∷_, _++_, map, append-assoc, append-nil}
 use mathlib.Core.Path.{_≡_, refl, sym, ap, ap₂, _∙_, subst}
-use Prim.Native.Nat.{ℕ, _≤_, _<_}
+use Prim.Native.Nat.{ℕ, _≤_, _^_, _<_}
 use native.Mathlib.Omega.{arith}
 use lib.Dec.{T}
 use lib.ListN.{length, length-append, List·getD-append}
@@ -34,6 +34,10 @@ pub steps-snoc : (n : ℕ) (F : List Flat) (X : List Implication) (P S : List St
 steps-snoc n F X P [] s h k = (subst (λ Q. StepRight n F X Q s) (append-nil P) k, tt)
 steps-snoc n F X P (x ∷ S) s h k =
     (h .0, steps-snoc n F X (P ++ (x ∷ [])) S s (h .1) (subst (λ Q. StepRight n F X Q s) (sym (append-assoc P (x ∷ []) S)) k))
+
+pub step-ranges : (n : ℕ) (F : List Flat) (X : List Implication) (P S : List Step) → StepsRight n F X P S → All (λ s. (s .number < length X) × (s .assumed < 2 ^ n)) S
+step-ranges n F X P [] h = tt
+step-ranges n F X P (s ∷ S) h = ((h .0 .number, h .0 .below), step-ranges n F X (P ++ (s ∷ [])) S (h .1))
 
 pub step-numbers : (n : ℕ) (F : List Flat) (X : List Implication) (P S : List Step) → StepsRight n F X P S → All (λ s. s .number < length X) S
 step-numbers n F X P [] h = tt

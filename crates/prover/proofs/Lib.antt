@@ -9,3 +9,4 @@ pub mod Known
 pub mod Turns
 pub mod Runs
 pub mod Answers
+pub mod DemandThree

@@ -4,3 +4,4 @@ pub mod InRange
 pub mod Calls
 pub mod Working
 pub mod Search
+pub mod Demand

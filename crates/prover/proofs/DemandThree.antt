@@ -1,0 +1,197 @@
+-- Demand 3: the theorem. A reached book and a session in range are kept by every call.
+use mathlib.Core.Bool.{Bool, true, false, cond}
+use mathlib.Core.List.{List, [], _∷_}
+use mathlib.Core.Path.{_≡_, refl, sym, ap, _∙_, subst}
+use Prim.Native.Nat.{ℕ, _^_, _≤_, _<_}
+use native.Mathlib.Decide.{decLe}
+use native.Mathlib.Omega.{arith}
+use lib.Dec.{T, eqb, leb, ltb, le→leb, lt→ltb}
+use lib.ListN.{length}
+use borrow.Author.Tests.{eq-eqb, ne-eqb}
+use Rattle.atoms.specs.Sets.{limit}
+use Rattle.atoms.specs.Words.{rowOf}
+use Rattle.atoms.proofs.Truth.{T-and, by-cond}
+use Rattle.ipl.specs.Lists.{all, All}
+use Rattle.ipl.specs.Range.{flatTable, implicationTable, stepTable, worldTable, atomOrBot, setInRange, flatInRange, implicationInRange}
+use Rattle.ipl.specs.Search.{Step, State, Outcome, valid, refuted, refused, unfinished}
+use Rattle.ipl.specs.Book as B
+use Rattle.ipl.specs.Book.{Book, Call, countInRange, answer, refusal, numberOf, stepsAfter, taken, next}
+use Rattle.ipl.specs.Demand.{WellFormed}
+use Rattle.ipl.proofs.Lists.{All-all, All-map, tabulate-length}
+use Rattle.ipl.proofs.Steps.{step-ranges}
+use Rattle.ipl.proofs.Limits.{Fits}
+use Rattle.ipl.proofs.Search.{OutcomeRight}
+use Rattle.ipl.proofs.Book.{Reached, opened-reached, next-reached, answer-right, claims}
+use Rattle.prover.specs.State.{implicationRow, stepRow, flatsOf, implicationsOf, stepsOf, worldsOf, book}
+use Rattle.prover.specs.InRange.{flatsInRange, implicationsInRange, stepInRange, stepsInRange, worldsInRange, heldInRange, inRange}
+use Rattle.prover.specs.Calls.{number, outcome, NothingHeld, Added, Answer, AskedAs}
+use Rattle.prover.specs.Demand.{Made, addFlat, addImplication, question, callOf, Returned, sessionOf, Meets, Run, VerdictIs, AnswerIs, Follows, DemandThree}
+use Rattle.prover.specs.declared.Session.{Session}
+use Rattle.prover.specs.declared.Changed.{Changed}
+use Rattle.prover.specs.declared.Answered.{Answered}
+use Rattle.prover.specs.declared.Held.{Held}
+use Rattle.prover.specs.declared.Held.the-variants as held
+use Rattle.prover.proofs.Sessions.{of-parts}
+use Rattle.prover.proofs.Refusals.{clauses-length}
+
+-- ---- a session whose book is reached is in range, with its worlds and its verdict
+module _ (s : Session) (h : WellFormed (book s)) where
+  count-in-range : T (countInRange (s .n))
+  unfolding countInRange
+  count-in-range = T-and (leb 1 (s .n)) (leb (s .n) limit) (le→leb 1 (s .n) (h .some)) (le→leb (s .n) limit (h .few))
+
+  flats-in-range : T (flatsInRange (s .n) (s .flats))
+  unfolding flatsInRange
+  flats-in-range =
+      T-and (leb (s .flats .count) flatTable) (all (flatInRange (s .n)) (flatsOf (s .flats)))
+      (le→leb (s .flats .count) flatTable (omega (arith, h .flat-count, clauses-length (s .flats .left) (s .flats .right) (s .flats .count))))
+      (All-all (flatInRange (s .n)) (flatsOf (s .flats)) (h .flats))
+
+  implications-in-range : T (implicationsInRange (s .n) (s .implications))
+  unfolding implicationsInRange
+  implications-in-range =
+      T-and (leb (s .implications .count) implicationTable) (all (implicationInRange (s .n)) (implicationsOf (s .implications)))
+      (le→leb (s .implications .count) implicationTable (omega (arith, h .implication-count, tabulate-length (implicationRow (s .implications)) (s .implications .count))))
+      (All-all (implicationInRange (s .n)) (implicationsOf (s .implications)) (h .implications))
+
+  step-in-range : (t : Step) → (t .number < length (implicationsOf (s .implications))) × (t .assumed < 2 ^ s .n) → T (stepInRange (s .n) (s .implications .count) t)
+  unfolding stepInRange setInRange
+  step-in-range t r =
+      T-and (ltb (t .number) (s .implications .count)) (ltb (t .assumed) (2 ^ s .n))
+      (lt→ltb (t .number) (s .implications .count) (omega (arith, r .0, tabulate-length (implicationRow (s .implications)) (s .implications .count))))
+      (lt→ltb (t .assumed) (2 ^ s .n) (r .1))
+
+  steps-in-range : T (stepsInRange (s .n) (s .implications .count) (s .steps))
+  unfolding stepsInRange
+  steps-in-range =
+      T-and (leb (s .steps .count) stepTable) (all (stepInRange (s .n) (s .implications .count)) (stepsOf (s .steps)))
+      (le→leb (s .steps .count) stepTable (omega (arith, h .step-count, tabulate-length (stepRow (s .steps)) (s .steps .count))))
+      (All-all (stepInRange (s .n) (s .implications .count)) (stepsOf (s .steps))
+      (All-map (stepsOf (s .steps)) step-in-range (step-ranges (s .n) (flatsOf (s .flats)) (implicationsOf (s .implications)) [] (stepsOf (s .steps)) (h .steps))))
+
+  module _ (W : List ℕ) (shows : worldsOf (s .worlds) ≡ W) (few : length W ≤ worldTable) (below : All (λ M. M < 2 ^ s .n) W) where
+    worlds-in-range : T (worldsInRange (s .n) (s .worlds))
+    unfolding worldsInRange setInRange
+    worlds-in-range =
+        T-and (leb (s .worlds .count) worldTable) (all (setInRange (s .n)) (worldsOf (s .worlds)))
+        (le→leb (s .worlds .count) worldTable (omega (arith, few, ap length shows, tabulate-length (rowOf (s .worlds .sets)) (s .worlds .count))))
+        (rw shows (All-all (setInRange (s .n)) W (All-map W (λ M l. lt→ltb M (2 ^ s .n) l) below)))
+
+    well-formed-in-range : T (heldInRange (s .n) (s .held)) → inRange s ≡ true
+    well-formed-in-range v =
+        of-parts s (record { count = count-in-range; flats = flats-in-range; implications = implications-in-range; steps = steps-in-range; worlds = worlds-in-range; held = v })
+
+nothing-in-range : (total : ℕ) (s : Session) → Reached (book s) → NothingHeld total s → inRange s ≡ true
+unfolding heldInRange
+nothing-in-range total s r h =
+    well-formed-in-range s (r .well-formed) [] (h .no-worlds) (omega arith) tt (subst (λ (v : Held). T (heldInRange (s .n) v)) (sym (h .no-verdict)) tt)
+
+-- What a call leaves: the book that it makes of the session's, and a session in range.
+abbrev Kept : Session → Call → Session → Type 0
+Kept s c next-session = (book next-session ≡ next (book s) c) × (inRange next-session ≡ true)
+
+module _ (s : Session) (in-range : inRange s ≡ true) (r : Reached (book s)) where
+  -- ---- additions
+  module _ (c : Call) (x : Changed) (a : Added s (number s (refusal (book s) c)) (taken (book s) c) x) where
+    met : number s (refusal (book s) c) ≡ refusal (book s) c
+    met = rw in-range
+
+    pub added-answer : x .refusal ≡ refusal (book s) c
+    added-answer = a .refused ∙ met
+
+    pub added-kept : Kept s c (x .session)
+    unfolding next
+    added-kept = elim (decLe (refusal (book s) c) 0) [
+      | yes l ↦
+          let e : refusal (book s) c ≡ 0 = omega arith in
+          let b : book (x .session) ≡ next (book s) c = a .holds (met ∙ e) ∙ rw (eq-eqb (refusal (book s) c) 0 e) in
+          (b, nothing-in-range (s .total) (x .session) (subst Reached (sym b) (next-reached (book s) c r)) (a .nothing (met ∙ e)))
+      | no l ↦
+          let d : refusal (book s) c ≡ 0 → ⊥ = λ e. omega arith in
+          let same : x .session ≡ s = a .unchanged (λ e. d (sym met ∙ e)) in
+          (ap book same ∙ rw (ne-eqb (refusal (book s) c) 0 d), subst (λ (u : Session). inRange u ≡ true) (sym same) in-range)
+    ]
+
+  -- ---- questions
+  module _ (g : ℕ) (x : Answered) where
+    k : Book
+    k = book s
+
+    -- The book after an answer o.
+    next-is : (o : Outcome) → answer (book s) g ≡ o
+        → next (book s) (B.question g) ≡ cond (eqb (numberOf o) 0) (record { n = s .n; flats = flatsOf (s .flats); implications = implicationsOf (s .implications); steps = stepsAfter (stepsOf (s .steps)) o }) (book s)
+    unfolding next taken refusal
+    next-is o e = ap (λ (o : Outcome). cond (eqb (numberOf o) 0) (record { n = s .n; flats = flatsOf (s .flats); implications = implicationsOf (s .implications); steps = stepsAfter (stepsOf (s .steps)) o }) (book s)) e
+
+    answer-kept : (o : Outcome) (end : State) (v : Held) → answer (book s) g ≡ o → numberOf o ≡ 0 → stepsAfter (stepsOf (s .steps)) o ≡ end .steps → Answer s end v (x .session)
+        → length (end .worlds) ≤ worldTable → All (λ M. M < 2 ^ s .n) (end .worlds) → T (heldInRange (s .n) v) → Kept s (B.question g) (x .session)
+    answer-kept o end v e z st a few below held-ok =
+        let b : book (x .session) ≡ next (book s) (B.question g) = a .holds ∙ sym (next-is o e ∙ rw (eq-eqb (numberOf o) 0 z, st)) in
+        let n-same : x .session .n ≡ s .n = ap (λ (k : Book). k .n) (a .holds) in (
+          b,
+          well-formed-in-range (x .session) (subst Reached (sym b) (next-reached (book s) (B.question g) r) .well-formed) (end .worlds) (a .shows) few
+              (subst (λ (n : ℕ). All (λ M. M < 2 ^ n) (end .worlds)) (sym n-same) below)
+              (subst (λ (v : Held). T (heldInRange (x .session .n) v)) (sym (a .verdict)) (subst (λ (n : ℕ). T (heldInRange n v)) (sym n-same) held-ok)),
+        )
+
+    -- A goal that gets a verdict is in range.
+    verdict-goal : (o : Outcome) → answer (book s) g ≡ o → numberOf o ≡ 0 → T (atomOrBot (s .n) g)
+    unfolding answer numberOf
+    verdict-goal o e z = go (atomOrBot (s .n) g) refl
+      where
+        go : (b : Bool) → atomOrBot (s .n) g ≡ b → T b
+        go true eb = tt
+        go false eb =
+            let six : o ≡ refused 6 = sym e ∙ rw eb in
+            let number : numberOf o ≡ 6 = ap numberOf six in absurd (omega (arith, number, z))
+
+    verdict-is : (o : Outcome) → AskedAs s g o x → VerdictIs g o x
+    verdict-is (valid end) a = (a .0, a .1 .verdict)
+    verdict-is (refuted end) a = (a .0, a .1 .verdict, a .1 .shows)
+    verdict-is (refused number) a = a .0
+    verdict-is unfinished a = a
+
+    kept : (o : Outcome) → answer (book s) g ≡ o → OutcomeRight (s .n) (flatsOf (s .flats)) (implicationsOf (s .implications)) g (stepsOf (s .steps)) o × Fits o → AskedAs s g o x → Kept s (B.question g) (x .session)
+    unfolding numberOf stepsAfter heldInRange
+    kept (valid end) e h a =
+        answer-kept (valid end) end (held.Valid g) e refl refl (a .1) (rw (h .1 .1) (omega arith)) (rw (h .1 .1) tt) (verdict-goal (valid end) e refl)
+    kept (refuted end) e h a =
+        answer-kept (refuted end) end (held.Refuted g) e refl refl (a .1) (h .1 .0) (h .0 .below) (verdict-goal (refuted end) e refl)
+    kept (refused number) e h a = (
+      ap book (a .1) ∙ sym (next-is (refused number) e ∙ by-cond (λ (k : Book). k ≡ book s) (eqb number 0) _ (book s) (λ _. refl) (λ _. refl)),
+      subst (λ (u : Session). inRange u ≡ true) (sym (a .1)) in-range,
+    )
+    kept unfinished e h a = absurd a
+
+    asked-as : AskedAs s g (outcome s g) x → AskedAs s g (answer (book s) g) x
+    asked-as a = subst (λ (b : Bool). AskedAs s g (cond b (answer (book s) g) (refused 5)) x) in-range a
+
+  -- ---- each call
+  call-answer : (c : Made) (x : Returned c) → Meets s c x → AnswerIs (book s) c x
+  unfolding refusal
+  call-answer (addFlat left right) x m = added-answer (callOf (addFlat left right)) x m
+  call-answer (addImplication a b c) x m = added-answer (callOf (addImplication a b c)) x m
+  call-answer (question g) x m = verdict-is g x (answer (book s) g) (asked-as g x m)
+
+  call-kept : (c : Made) (x : Returned c) → Meets s c x → Kept s (callOf c) (sessionOf c x)
+  unfolding refusal
+  call-kept (addFlat left right) x m = added-kept (callOf (addFlat left right)) x m
+  call-kept (addImplication a b c) x m = added-kept (callOf (addImplication a b c)) x m
+  call-kept (question g) x m = kept g x (answer (book s) g) refl (answer-right (book s) g r) (asked-as g x m)
+
+-- ---- every run
+follows : (cs : List Made) (s : Session) → inRange s ≡ true → Reached (book s) → (run : Run s cs) → Follows (book s) s cs run
+follows [] s i r run = refl
+follows (c ∷ cs) s i r run =
+    let kept : Kept s (callOf c) (sessionOf c (run .0)) = call-kept s i r c (run .0) (run .1) in (
+      refl,
+      call-answer s i r c (run .0) (run .1),
+      claims (callOf c ∷ []) (book s) r .0,
+      subst (λ (k : Book). Follows k (sessionOf c (run .0)) cs (run .2)) (kept .0)
+          (follows cs (sessionOf c (run .0)) (kept .1) (subst Reached (sym (kept .0)) (next-reached (book s) (callOf c) r)) (run .2)),
+    )
+
+pub demand-three : DemandThree
+demand-three n o h cs run =
+    let r : Reached (book (o .session)) = subst Reached (sym (h .holds)) (opened-reached n) in
+    (h .refused, subst (λ (k : Book). Follows k (o .session) cs run) (h .holds) (follows cs (o .session) (nothing-in-range 0 (o .session) r (h .nothing)) r run))
