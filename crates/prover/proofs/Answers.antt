@@ -57,9 +57,9 @@ module _ (s : Session) (g : ℕ) (F : List Flat) (t : Tables) (e : End) (h : End
       subst (λ (o : Outcome). AskedAs s g o (record { verdict = verdict.Refuted (p .worlds); session = next })) (sym (subst (Ended (whole s g (flatsOf (s .flats))) t) r ended .0))
       (ap verdict.Refuted (sym (tabulate-length (rowOf (t .sets)) (p .worlds))), a)
 
-  pub full-asked : (k : ℕ) → e ≡ end.Full k → AskedAs s g (whole s g (flatsOf (s .flats))) (record { verdict = verdict.Refused k; session = s })
+  pub full-asked : (k : ℕ) → e ≡ end.Full k → AskedAs s g (whole s g (flatsOf (s .flats))) (record { verdict = verdict.Refused k 0; session = s })
   full-asked k r =
-      subst (λ (o : Outcome). AskedAs s g o (record { verdict = verdict.Refused k; session = s })) (sym (subst (Ended (whole s g (flatsOf (s .flats))) t) r ended))
+      subst (λ (o : Outcome). AskedAs s g o (record { verdict = verdict.Refused k 0; session = s })) (sym (subst (Ended (whole s g (flatsOf (s .flats))) t) r ended))
       (refl, refl)
 
 -- ---- the refusals before the search
@@ -83,7 +83,7 @@ refused-outcome s g = go (inRange s) (atomOrBot (s .n) g)
     go true false d = refl
     go false b d = refl
 
-pub asked-refused : (s : Session) (g k : ℕ) → k ≡ goalNumber s g → (k ≡ 0 → ⊥) → Asked s g (record { verdict = verdict.Refused k; session = s })
+pub asked-refused : (s : Session) (g k : ℕ) → k ≡ goalNumber s g → (k ≡ 0 → ⊥) → Asked s g (record { verdict = verdict.Refused k 0; session = s })
 asked-refused s g k e d =
-    subst (λ (o : Outcome). AskedAs s g o (record { verdict = verdict.Refused k; session = s })) (sym (refused-outcome s g (λ z. d (e ∙ z))))
-    (ap verdict.Refused e, refl)
+    subst (λ (o : Outcome). AskedAs s g o (record { verdict = verdict.Refused k 0; session = s })) (sym (refused-outcome s g (λ z. d (e ∙ z))))
+    (ap (λ (k : ℕ). verdict.Refused k 0) e, refl)

@@ -88,7 +88,7 @@ outcome s g = cond (inRange s) (answer (book s) g) (refused 5)
 abbrev pub AskedAs : Session → ℕ → Outcome → Answered → Type 0
 AskedAs s g (valid end) r = (r .verdict ≡ verdict.Valid (length (end .steps))) × Answer s end (held.Valid g) (r .session)
 AskedAs s g (refuted end) r = (r .verdict ≡ verdict.Refuted (length (end .worlds))) × Answer s end (held.Refuted g) (r .session)
-AskedAs s g (refused number) r = (r .verdict ≡ verdict.Refused number) × (r .session ≡ s)
+AskedAs s g (refused number) r = (r .verdict ≡ verdict.Refused number 0) × (r .session ≡ s)
 AskedAs s g unfinished r = ⊥
 
 abbrev pub Asked : Session → ℕ → Answered → Type 0

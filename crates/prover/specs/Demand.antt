@@ -54,7 +54,7 @@ Run s (c ∷ cs) = (r : Returned c) × Meets s c r × Run (sessionOf c r) cs
 abbrev pub VerdictIs : ℕ → Outcome → Answered → Type 0
 VerdictIs g (valid end) r = (r .verdict ≡ verdict.Valid (length (end .steps))) × (r .session .held ≡ held.Valid g)
 VerdictIs g (refuted end) r = (r .verdict ≡ verdict.Refuted (length (end .worlds))) × (r .session .held ≡ held.Refuted g) × (worldsOf (r .session .worlds) ≡ end .worlds)
-VerdictIs g (refused number) r = r .verdict ≡ verdict.Refused number
+VerdictIs g (refused number) r = r .verdict ≡ verdict.Refused number 0
 VerdictIs g unfinished r = ⊥
 
 -- "Each answer": the number of the book's refusal, or the verdict of the book's answer.

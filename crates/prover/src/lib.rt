@@ -58,11 +58,11 @@ pub struct Changed {
     pub session: Session,
 }
 
-// Valid, with the count of steps held; refuted, with the count of worlds; or the number of a refusal.
+// Valid, with the count of steps held; refuted, with the count of worlds; or refused, with a number and a place, which is 0 here.
 pub enum Verdict {
     Valid(usize),
     Refuted(usize),
-    Refused(u8),
+    Refused(u8, usize),
 }
 
 // The answer to a question, and the session that the caller goes on with.
@@ -133,7 +133,7 @@ pub fn ask(s: Session, goal: u8) -> Answered
         settling::settle(s, goal)
     } else {
         Answered {
-            verdict: Verdict::Refused(refusal),
+            verdict: Verdict::Refused(refusal, 0),
             session: s,
         }
     }

@@ -82,7 +82,7 @@ pub fn settle(s: Session, goal: u8) -> Answered
         start,
     ) {
         End::Full(k) => Answered {
-            verdict: Verdict::Refused(k),
+            verdict: Verdict::Refused(k, 0),
             session: s,
         },
         End::Valid(p) => {
