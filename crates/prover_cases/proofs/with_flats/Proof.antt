@@ -1,0 +1,50 @@
+-- Counted up to the number asked for.
+use Prim.Native.Nat.{_≤_, _-_}
+use borrow.Author.Needs.{needs}
+use Rattle.prover_cases.proofs.with_flats.Statement.{statement}
+use Rattle.prover_cases.proofs.with_flats.Tie as tie
+
+abbrev Inv-loop : tie.InvT-loop
+Inv-loop count s₀ i₀ s i = i ≤ count
+
+abbrev μ-loop : tie.MeasureT-loop
+μ-loop count s₀ i₀ s i = count - i
+
+loop-holds : tie.Need-loop-holds Inv-loop μ-loop
+loop-holds c = search needs
+
+single-requires : tie.Need-single-requires Inv-loop μ-loop
+single-requires c κs = search needs
+
+single-requires-2 : tie.Need-single-requires-2 Inv-loop μ-loop
+single-requires-2 c κs = search needs
+
+with-flat-requires : tie.Need-with-flat-requires Inv-loop μ-loop
+with-flat-requires c κs = search needs
+
+add-i : tie.Need-add-i Inv-loop μ-loop
+add-i c = search needs
+
+loop-less : tie.Need-loop-less Inv-loop μ-loop
+loop-less c = search needs
+
+loop-again : tie.Need-loop-again Inv-loop μ-loop
+loop-again c = search needs
+
+returns : tie.Need-returns Inv-loop μ-loop
+returns c = search needs
+
+pub with-flats-spec : {M : Type 1} → statement M
+with-flats-spec =
+    tie.close
+    (tie.spec
+    Inv-loop
+    μ-loop
+    loop-holds
+    single-requires
+    single-requires-2
+    with-flat-requires
+    add-i
+    loop-less
+    loop-again
+    returns)
