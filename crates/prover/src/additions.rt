@@ -99,6 +99,7 @@ fn with_clauses(s: Session, flats: Flats, implications: Implications) -> Session
     let mut worlds = s.worlds;
     worlds.count = 0;
     let steps = s.steps;
+    let held = Held::Nothing;
     Session {
         n: s.n,
         flats,
@@ -106,7 +107,7 @@ fn with_clauses(s: Session, flats: Flats, implications: Implications) -> Session
         steps,
         worlds,
         total: s.total,
-        held: Held::Nothing,
+        held,
     }
 }
 
