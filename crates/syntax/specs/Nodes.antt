@@ -34,7 +34,7 @@ sameLeaf (compound c a b) e = false
 -- The index of the first entry that is this leaf; the table's length where there is none.
 unfoldable pub leafAt : Entry → List Entry → ℕ
 leafAt e [] = 0
-leafAt e (x ∷ T) = cond (sameLeaf e x) 0 (suc (leafAt e T))
+leafAt e (x ∷ T) = cond (sameLeaf x e) 0 (suc (leafAt e T))
 
 unfoldable pub withLeaf : List Entry → Entry → Named
 withLeaf T e = record { table = cond (ltb (leafAt e T) (length T)) T (T ++ (e ∷ [])); root = leafAt e T }

@@ -6,13 +6,12 @@ ghost use mathlib.Core.Bool.{cond};
 ghost use Prim.Native.Nat.{ℕ, _≤_, _<_, _+_, _*_};
 ghost use lib.Dec.{eqb};
 ghost use lib.ListN.{length};
-ghost use Rattle.syntax.specs.Class.{Class, codeOf};
 ghost use Rattle.syntax.specs.Refusal.{TooDeep, Decides};
-ghost use Rattle.syntax.specs.Scan.{Scanned, stateOf, turnState, move};
-ghost use Rattle.syntax.specs.Size.{CountsOn, sizeOf};
+ghost use Rattle.syntax.specs.Scan.{Scanned, turnBy};
+ghost use Rattle.syntax.specs.Size.{CountsOn, namesBy, sizeOf};
 
 fn one_if_same(a: u8, b: u8) -> usize
-    ensures { λ r. ⌜ r ≡ cond (eqb a b) 1 0 ⌝ }
+    ensures { λ r. ⌜ (r ≡ cond (eqb a b) 1 0) × (r ≤ 1) ⌝ }
 {
     if a == b { 1 } else { 0 }
 }
@@ -22,14 +21,14 @@ pub fn too_deep(s: &[u8]) -> bool
     requires { ⌜ length (now s) ≤ 4096 ⌝ }
     ensures { λ r. ⌜ Decides r (TooDeep (now (s .entry))) ⌝ }
 {
-    let mut open: usize = 0;
-    let mut shut: usize = 0;
+    let mut opened: usize = 0;
+    let mut closed: usize = 0;
     let mut i: usize = 0;
     while i < s.len() {
-        open += one_if_same(s[i], b'(');
-        shut += one_if_same(s[i], b')');
+        opened += one_if_same(s[i], b'(');
+        closed += one_if_same(s[i], b')');
         i += 1;
-        if 64 + shut < open {
+        if 64 + closed < opened {
             return true;
         }
     }
@@ -44,7 +43,7 @@ pub enum Turn {
 
 fn step(operand: bool, depth: usize, class: u8) -> Turn
     requires { ⌜ depth < 4096 ⌝ }
-    ensures { λ r. ⌜ ((x : Class) → class ≡ codeOf x → turnState r ≡ move (stateOf operand depth) x) ⌝ }
+    ensures { λ r. ⌜ r ≡ turnBy operand depth class ⌝ }
 {
     if operand {
         if class < bytes::BLANK {
@@ -116,6 +115,25 @@ pub struct Count {
     pub count: usize,
 }
 
+// The names that a connective gets.
+fn names_of(class: u8) -> usize
+    ensures { λ r. ⌜ (r ≡ namesBy class) × (r ≤ 3) ⌝ }
+{
+    if class == bytes::EQUALS {
+        return 3;
+    }
+    if class == bytes::NOT {
+        return 1;
+    }
+    if class < bytes::AND {
+        return 0;
+    }
+    if class < bytes::EQUALS {
+        return 1;
+    }
+    0
+}
+
 // One token more. Classes of bytes are below 36, and the count of a text is small.
 fn counted(c: Count, class: u8) -> Count
     requires { ⌜ (class < 36) × (c .count ≤ 65536) ⌝ }
@@ -133,14 +151,9 @@ fn counted(c: Count, class: u8) -> Count
             count: count + 1,
         };
     }
-    let names = match class {
-        2 | 3 | 4 | 7 => 1,
-        5 => 3,
-        _ => 0,
-    };
     Count {
         seen,
-        count: count + names,
+        count: count + names_of(class),
     }
 }
 

@@ -65,7 +65,7 @@ fn leaf_at(parts: Parts, part: Part) -> u8
     while i < parts.count {
         let node = parts.nodes[i as usize];
         let other = node.part;
-        if same_leaf(part, other) {
+        if same_leaf(other, part) {
             return i;
         }
         i += 1;

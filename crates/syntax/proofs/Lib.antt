@@ -1,0 +1,8 @@
+-- Laws of the definitions, and the theorems.
+pub mod Entries
+pub mod Class
+pub mod Position
+pub mod Depth
+pub mod Fault
+pub mod Size
+pub mod Held

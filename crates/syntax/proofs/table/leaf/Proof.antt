@@ -1,0 +1,25 @@
+use mathlib.Core.Path.{refl}
+use Rattle.syntax.proofs.Held.{holds-found, holds-new}
+use borrow.Author.Needs.{needs}
+use native.Mathlib.Omega.{arith}
+use Rattle.syntax.proofs.table.leaf.Statement.{statement}
+use Rattle.syntax.proofs.table.leaf.Tie as tie
+use Rattle.syntax.proofs.table.leaf.Reads as reads
+use Rattle.syntax.proofs.table.leaf.Lts as lts
+use Rattle.syntax.proofs.table.leaf_at.Reads as leaf-at-reads
+use Rattle.syntax.proofs.table.push.Reads as push-reads
+
+leaf-at-requires : tie.Need-leaf-at-requires
+leaf-at-requires c κs = search needs
+
+returns : tie.Need-returns
+returns c = (refl, holds-found _ (c .before .before .before .pre) _ _ _ (c .before .before .leaf-at .ensures) (c .if1 .taken))
+
+push-requires : tie.Need-push-requires
+push-requires c κs = search needs
+
+returns-2 : tie.Need-returns-2
+returns-2 c = (refl, rw (c .push .ensures) (holds-new _ (c .before .before .before .before .pre) _ _ _ (c .before .before .before .leaf-at .ensures) (c .before .if1 .left)))
+
+pub leaf-spec : {M : Type 1} → statement M
+leaf-spec = tie.close (tie.spec leaf-at-requires returns push-requires returns-2)
