@@ -8,7 +8,7 @@ use native.Mathlib.Omega.{arith}
 use lib.Dec.{eqb, ltb, leb, T, leb→le}
 use lib.ListN.{length, getD, drop, drop-of-length-le}
 use lib.Seq.{drop-cons}
-use borrow.Author.Tests.{eqb-true, eq-eqb, ne-eqb, le-ltb}
+use borrow.Author.Tests.{eqb-true, eqb-false, eq-eqb, ne-eqb, le-ltb}
 use Rattle.atoms.proofs.Truth.{by-cond, T-left, T-right, true-T}
 use Rattle.syntax.specs.Class.{Class, foreign, closing, ampersand, bar, greater, equals, blank, tilde, opening, nought, lowercase, classOf, codeOf, tokens, after}
 use Rattle.syntax.specs.Descent.{rest}
@@ -49,6 +49,21 @@ decode-code (lowercase l) = decode-letter l
 pub class-is : (c : Class) (n : ℕ) → n ≡ codeOf c → c ≡ decode n
 class-is c n e = sym (decode-code c) ∙ ap decode (sym e)
 
+-- A letter by its number.
+pub letter-is : (x : Class) (n : ℕ) → n ≡ codeOf x → 10 ≤ n → x ≡ lowercase (n - 10)
+unfolding codeOf
+letter-is foreign n e h = absurd (omega arith)
+letter-is closing n e h = absurd (omega arith)
+letter-is ampersand n e h = absurd (omega arith)
+letter-is bar n e h = absurd (omega arith)
+letter-is greater n e h = absurd (omega arith)
+letter-is equals n e h = absurd (omega arith)
+letter-is blank n e h = absurd (omega arith)
+letter-is tilde n e h = absurd (omega arith)
+letter-is opening n e h = absurd (omega arith)
+letter-is nought n e h = absurd (omega arith)
+letter-is (lowercase l) n e h = ap lowercase (omega arith)
+
 -- What holds of each class, given its bytes, holds of every byte's class.
 module _ (P : Class → Type 0) (b : ℕ) where
   byte-or : (n : ℕ) (c d : Class) → (b ≡ n → P c) → P d → P (cond (eqb b n) c d)
@@ -71,6 +86,18 @@ code-small b = by-class Small b (λ _. omega arith) (λ _. omega arith) (λ _. o
 blank-byte : (b : ℕ) → codeOf (classOf b) ≡ 6 → b ≡ 32
 unfolding codeOf
 blank-byte b = by-class (λ c. codeOf c ≡ 6 → b ≡ 32) b (λ _ e. absurd (omega arith)) (λ _ e. absurd (omega arith)) (λ _ e. absurd (omega arith)) (λ _ e. absurd (omega arith)) (λ _ e. absurd (omega arith)) (λ _ e. absurd (omega arith)) (λ _ e. absurd (omega arith)) (λ _ e. absurd (omega arith)) (λ h e. h) (λ u v e. absurd (omega arith)) (λ e. absurd (omega arith))
+
+-- No token is a space.
+pub no-blank : (s : List ℕ) (c : Class) (l : List Class) → tokens s ≡ c ∷ l → c ≡ blank → ⊥
+unfolding tokens codeOf
+no-blank [] c l e k = let z : _≡_ {A = ℕ} 0 1 = cc in omega arith
+no-blank (b ∷ s) c l e k = go (λ f. no-blank s c l f k) (eqb b 32) refl e
+  where
+    first : {x y : Class} {u v : List Class} → x ∷ u ≡ y ∷ v → x ≡ y
+    first q = cc
+    go : (tokens s ≡ c ∷ l → ⊥) → (t : Bool) → eqb b 32 ≡ t → cond t (tokens s) (classOf b ∷ tokens s) ≡ c ∷ l → ⊥
+    go ih true q f = ih f
+    go ih false q f = eqb-false b 32 q (blank-byte b (ap codeOf (first f ∙ k)))
 
 -- The tokens from a position on.
 module _ (s : List ℕ) (i : ℕ) where

@@ -105,15 +105,15 @@ module _ (p : Parts) (s : Sound p) (next : ℕ) where
     root = λ w. sym (held-length p s) }
 
 -- Tables only grow.
-compound-grows : (T : List Entry) (c : Connective) (a b : ℕ) → length (withCompound T c a b .table) ≡ suc (length T)
+pub compound-grows : (T : List Entry) (c : Connective) (a b : ℕ) → length (withCompound T c a b .table) ≡ suc (length T)
 unfolding withCompound
 compound-grows T c a b = length-append T (compound c a b ∷ []) ∙ add-one (length T)
 
-leaf-grows : (T : List Entry) (e : Entry) → length T ≤ length (withLeaf T e .table)
+pub leaf-grows : (T : List Entry) (e : Entry) → length T ≤ length (withLeaf T e .table)
 unfolding withLeaf
 leaf-grows T e = by-cond (λ (U : List Entry). length T ≤ length U) (ltb (leafAt e T) (length T)) T (T ++ (e ∷ [])) (λ t. omega arith) (λ t. omega (arith, length-append T (e ∷ [])))
 
-equivalence-grows : (T : List Entry) (a b : ℕ) → length T ≤ length (withEquivalence T a b .table)
+pub equivalence-grows : (T : List Entry) (a b : ℕ) → length T ≤ length (withEquivalence T a b .table)
 unfolding withEquivalence
 equivalence-grows T a b =
     let x = withCompound T Implies a b in

@@ -6,3 +6,5 @@ pub mod Depth
 pub mod Fault
 pub mod Size
 pub mod Held
+pub mod Run
+pub mod Operand

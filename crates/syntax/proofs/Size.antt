@@ -16,23 +16,9 @@ use Rattle.ipl.specs.Lists.{any}
 use Rattle.syntax.specs.Class.{Class, foreign, closing, ampersand, bar, greater, equals, blank, tilde, opening, nought, lowercase, classOf, codeOf, after}
 use Rattle.syntax.specs.Size.{Size, stands, withNames, withLetter, counted, total, uncounted, sizeOf, namesBy, Counts, CountsOn}
 use Rattle.syntax.specs.declared.passes.Count.{Count}
-use Rattle.syntax.proofs.Class.{after-byte, after-end}
+use Rattle.syntax.proofs.Class.{letter-is, after-byte, after-end}
 
--- A class by its number: a letter, or so many names.
-letter-is : (x : Class) (n : ℕ) → n ≡ codeOf x → 10 ≤ n → x ≡ lowercase (n - 10)
-unfolding codeOf
-letter-is foreign n e h = absurd (omega arith)
-letter-is closing n e h = absurd (omega arith)
-letter-is ampersand n e h = absurd (omega arith)
-letter-is bar n e h = absurd (omega arith)
-letter-is greater n e h = absurd (omega arith)
-letter-is equals n e h = absurd (omega arith)
-letter-is blank n e h = absurd (omega arith)
-letter-is tilde n e h = absurd (omega arith)
-letter-is opening n e h = absurd (omega arith)
-letter-is nought n e h = absurd (omega arith)
-letter-is (lowercase l) n e h = ap lowercase (omega arith)
-
+-- A class that is no letter adds so many names.
 names-of : (z : Size) (x : Class) → codeOf x < 10 → counted z x ≡ withNames (namesBy (codeOf x)) z
 unfolding codeOf counted
 names-of z foreign h = refl
