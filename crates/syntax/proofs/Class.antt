@@ -83,7 +83,7 @@ unfolding codeOf
 code-small b = by-class Small b (λ _. omega arith) (λ _. omega arith) (λ _. omega arith) (λ _. omega arith) (λ _. omega arith) (λ _. omega arith) (λ _. omega arith) (λ _. omega arith) (λ _. omega arith) (λ u v. omega arith) (omega arith)
 
 -- Byte 32 alone is a space.
-blank-byte : (b : ℕ) → codeOf (classOf b) ≡ 6 → b ≡ 32
+pub blank-byte : (b : ℕ) → codeOf (classOf b) ≡ 6 → b ≡ 32
 unfolding codeOf
 blank-byte b = by-class (λ c. codeOf c ≡ 6 → b ≡ 32) b (λ _ e. absurd (omega arith)) (λ _ e. absurd (omega arith)) (λ _ e. absurd (omega arith)) (λ _ e. absurd (omega arith)) (λ _ e. absurd (omega arith)) (λ _ e. absurd (omega arith)) (λ _ e. absurd (omega arith)) (λ _ e. absurd (omega arith)) (λ h e. h) (λ u v e. absurd (omega arith)) (λ e. absurd (omega arith))
 

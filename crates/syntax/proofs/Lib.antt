@@ -8,3 +8,6 @@ pub mod Size
 pub mod Held
 pub mod Run
 pub mod Operand
+pub mod Join
+pub mod Beginning
+pub mod Names
