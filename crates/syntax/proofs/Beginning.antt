@@ -101,7 +101,7 @@ ready-text (b ∷ s) a u r = go (λ e v q. ready-text s e v q) (eqb b 32) refl
 ready-start : Ready (wanted 0) []
 ready-start f c g done = subst (Some implication) (sym (append-nil f)) g
 
-scan-tokens : (s : List ℕ) → scanned s ≡ after move (wanted 0) (tokens s)
+pub scan-tokens : (s : List ℕ) → scanned s ≡ after move (wanted 0) (tokens s)
 scan-tokens s = after-tokens move blank-stays (wanted 0) s
 
 -- The scan ends with no operand wanted and nothing open exactly on formulas.
@@ -182,4 +182,5 @@ longest s =
     record {
       within = place-within s (wanted 0);
       begins = ready-begins a u (subst Fit (after-tokens move blank-stays (wanted 0) u) (place-fits s (wanted 0) tt)) (ready-text u (wanted 0) [] ready-start);
-      last = λ k h b. place-last s (wanted 0) k h (begins-fit (take k s) b) }
+      last = λ k h b. place-last s (wanted 0) k h (begins-fit (take k s) b);
+    }

@@ -95,6 +95,7 @@ no-blank (b ∷ s) c l e k = go (λ f. no-blank s c l f k) (eqb b 32) refl e
   where
     first : {x y : Class} {u v : List Class} → x ∷ u ≡ y ∷ v → x ≡ y
     first q = cc
+
     go : (tokens s ≡ c ∷ l → ⊥) → (t : Bool) → eqb b 32 ≡ t → cond t (tokens s) (classOf b ∷ tokens s) ≡ c ∷ l → ⊥
     go ih true q f = ih f
     go ih false q f = eqb-false b 32 q (blank-byte b (ap codeOf (first f ∙ k)))

@@ -33,8 +33,13 @@ module _ (s : List ℕ) where
   pub shallow-start : Shallow s 0 0 0
   unfolding count
   shallow-start = record {
-    inside = omega arith; opened-is = refl; closed-is = refl; opened-small = omega arith; closed-small = omega arith;
-    none = λ k h t. let e : k ≡ 0 = omega arith in absurd (shallow-none (subst (λ (j : ℕ). TooDeepAt s j) e t)) }
+    inside = omega arith;
+    opened-is = refl;
+    closed-is = refl;
+    opened-small = omega arith;
+    closed-small = omega arith;
+    none = λ k h t. let e : k ≡ 0 = omega arith in absurd (shallow-none (subst (λ (j : ℕ). TooDeepAt s j) e t));
+  }
     where
       shallow-none : TooDeepAt s 0 → ⊥
       shallow-none t = omega arith
@@ -55,13 +60,16 @@ module _ (s : List ℕ) where
         opened-small = omega (arith, h .opened-small);
         closed-small = omega (arith, h .closed-small);
         none = λ k l t. elim (decLt k (i + 1)) [
-          yes e ↦ h .none k (omega arith) t
-        | no e ↦ let q : k ≡ i + 1 = omega arith in n (last (subst (λ (j : ℕ). TooDeepAt s j) q t)) ] }
+          | yes e ↦ h .none k (omega arith) t
+          | no e ↦ let q : k ≡ i + 1 = omega arith in n (last (subst (λ (j : ℕ). TooDeepAt s j) q t))
+        ];
+      }
         where
           last : TooDeepAt s (i + 1) → 64 + (closed + b) < opened + a
           last t = omega (arith, counts 40, counts 41, h .opened-is, h .closed-is, ea, eb)
 
   pub shallow-all : (opened closed i : ℕ) → Shallow s opened closed i → length s ≤ i → TooDeep s → ⊥
   shallow-all opened closed i h l (k, t) = elim (decLt k i) [
-      yes e ↦ h .none k (omega arith) t
-    | no e ↦ h .none i (omega arith) (let q : take k s ≡ take i s = take-all k s (omega (arith, h .inside)) ∙ sym (take-all i s l) in subst (λ (u : List ℕ). 64 + count 41 u < count 40 u) q t) ]
+    | yes e ↦ h .none k (omega arith) t
+    | no e ↦ h .none i (omega arith) (let q : take k s ≡ take i s = take-all k s (omega (arith, h .inside)) ∙ sym (take-all i s l) in subst (λ (u : List ℕ). 64 + count 41 u < count 40 u) q t)
+  ]

@@ -127,13 +127,15 @@ module _ (s : List ℕ) where
             inside = omega arith;
             depth = omega (arith, a .depth, depth-grows (stateOf w d) (classOf (getD s i 0)), depth-of-state w d, depth-of-state v e, ap depthOf m);
             runs = a .runs ∙ after-byte move (stateOf w d) s i h ∙ ap (λ (x : State). after move x (map classOf (drop (i + 1) s))) m;
-            places = omega (arith, a .places, next v e m) }
+            places = omega (arith, a .places, next v e m);
+          }
 
       pub scan-misfit : Misfit ≡ turnBy w d n → (scanned s ≡ had 0 → ⊥) × (i ≡ fitting (wanted 0) (map classOf s))
       scan-misfit t =
-          let m = turned Misfit t in
-          (λ e. misfit-had (sym (a .runs ∙ after-byte move (stateOf w d) s i h ∙ rw m (misfit-stays _)) ∙ e),
-          omega (arith, a .places, fitting-byte h ∙ ap (λ (x : State). unlessMisfit x (suc (fitting x (map classOf (drop (i + 1) s))))) m))
+          let m = turned Misfit t in (
+            λ e. misfit-had (sym (a .runs ∙ after-byte move (stateOf w d) s i h ∙ rw m (misfit-stays _)) ∙ e),
+            omega (arith, a .places, fitting-byte h ∙ ap (λ (x : State). unlessMisfit x (suc (fitting x (map classOf (drop (i + 1) s))))) m),
+          )
 
     module _ (h : length s ≤ i) where
       ends : scanned s ≡ stateOf w d

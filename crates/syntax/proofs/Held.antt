@@ -95,14 +95,16 @@ module _ (p : Parts) (s : Sound p) (next : ℕ) where
       rw (le-ltb (leafAt (entryOf e) (held p)) (length (held p)) w) (record {
         sound = push-sound p s e;
         table = λ b. push-held p s e (omega (arith, held-length p s, length-append (held p) (entryOf e ∷ [])));
-        root = λ b. k })
+        root = λ b. k;
+      })
 
   pub holds-compound : (c : declared.Connective) (a b : ℕ) → Holds (withCompound (held p) (connectiveOf c) a b) (record { next = next; root = p .count; parts = pushed p (Compound c a b) })
   unfolding withCompound
   holds-compound c a b = record {
     sound = push-sound p s (Compound c a b);
     table = λ w. push-held p s (Compound c a b) (omega (arith, held-length p s, length-append (held p) (compound (connectiveOf c) a b ∷ [])));
-    root = λ w. sym (held-length p s) }
+    root = λ w. sym (held-length p s);
+  }
 
 -- Tables only grow.
 pub compound-grows : (T : List Entry) (c : Connective) (a b : ℕ) → length (withCompound T c a b .table) ≡ suc (length T)
@@ -135,6 +137,7 @@ then-compound n r c a m o h e k = record { sound = k .sound; table = λ w. k .ta
   where
     fits : length (withCompound (n .table) c m (n .root) .table) ≤ room → length (n .table) ≤ room
     fits w = omega (arith, compound-grows (n .table) c m (n .root))
+
     same : length (withCompound (n .table) c m (n .root) .table) ≤ room → withCompound (held (r .parts)) c a (r .root) ≡ withCompound (n .table) c m (n .root)
     same w = rw (h .table (fits w), h .root (fits w), e (fits w))
 

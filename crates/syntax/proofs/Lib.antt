@@ -11,3 +11,4 @@ pub mod Operand
 pub mod Join
 pub mod Beginning
 pub mod Names
+pub mod Judgement

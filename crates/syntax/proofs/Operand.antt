@@ -37,8 +37,10 @@ holds-binary T p q l r W g o h i k = record { sound = k .sound; table = λ w. k 
   where
     a : Named
     a = withTree T p
+
     b : Named
     b = withTree (a .table) q
+
     same : Fits (W (b .table) (a .root) (b .root)) → W (held (r .parts)) (l .root) (r .root) ≡ W (b .table) (a .root) (b .root)
     same w =
         let fb : Fits b = omega (arith, g (b .table) (a .root) (b .root)) in
@@ -67,7 +69,8 @@ module _ (s : List ℕ) (at : ℕ) where
   wanted-after {r = r} w o t k n op z e = record {
     depth = w .depth;
     fits = ap (λ (x : State). after move x (rest s (t .next))) (sym (op (w .depth))) ∙ sym (ap (after move (had (w .depth))) (head-is s (r .next) t k n e z)) ∙ past w o;
-    inside = k .inside }
+    inside = k .inside;
+  }
 
   module _ (t : Token) (k : NextToken s at t) where
     pub wanted-not : Wanted s at → t .class ≡ 7 → Wanted s (t .next)
@@ -97,7 +100,8 @@ module _ (s : List ℕ) (at : ℕ) (p : Parts) where
       split = x .split ∙ ap (λ (q : List Class). x .text ++ q) (head-is s (l .next) t c n e z ∙ ap (λ (q : List Class). decode n ∷ q) (y .split ∙ ap (λ (i : ℕ). y .text ++ rest s i) (sym m))) ∙ sym (append-assoc (x .text) (decode n ∷ y .text) (rest s (o .next)));
       forward = omega (arith, x .forward, c .forward (omega arith), y .forward);
       inside = omega (arith, y .inside);
-      holds = rw (means (held p) (x .tree) (y .tree)) (holds-binary (held p) (x .tree) (y .tree) l r W more o (x .holds) (y .holds) h) }
+      holds = rw (means (held p) (x .tree) (y .tree)) (holds-binary (held p) (x .tree) (y .tree) l r W more o (x .holds) (y .holds) h);
+    }
 
   compound-more : (c : Connective) (U : List Entry) (i j : ℕ) → length U ≤ length (withCompound U c i j .table)
   compound-more c U i j = omega (arith, compound-grows U c i j)
@@ -142,7 +146,8 @@ module _ (s : List ℕ) (at : ℕ) (p : Parts) where
       split = head-is s at t k 7 e (omega arith) ∙ ap (λ (q : List Class). tilde ∷ q) (x .split ∙ ap (λ (i : ℕ). x .text ++ rest s i) (sym m));
       forward = omega (arith, k .forward (omega arith), x .forward);
       inside = omega (arith, x .inside);
-      holds = holds-unary (withTree (held p) (x .tree)) r withNegation negation-more o (x .holds) h }
+      holds = holds-unary (withTree (held p) (x .tree)) r withNegation negation-more o (x .holds) h;
+    }
       where
         negation-more : (T : List Entry) (a : ℕ) → length T ≤ length (withNegation T a .table)
         negation-more T a = let n = withLeaf T falsum in omega (arith, leaf-grows T falsum, compound-grows (n .table) Implies a (n .root))
@@ -159,7 +164,8 @@ module _ (s : List ℕ) (at : ℕ) (p : Parts) where
           split = head-is s at t k 8 e (omega arith) ∙ ap (λ (y : List Class). opening ∷ y) (x .split ∙ ap (λ (y : List Class). x .text ++ y) (head-is s (r .next) c q 1 ec (omega arith)) ∙ sym (append-assoc (x .text) (closing ∷ []) (rest s (c .next))));
           forward = omega (arith, k .forward (omega arith), x .forward, q .forward (omega arith));
           inside = q .inside;
-          holds = record { sound = x .holds .sound; table = x .holds .table; root = x .holds .root } }
+          holds = record { sound = x .holds .sound; table = x .holds .table; root = x .holds .root };
+        }
       where
         closes-here : ((rest s (r .next) ≡ []) × (suc (w .depth) ≡ 0)) ⊎ ((1 ≡ headCode (rest s (r .next))) × (0 < suc (w .depth))) → 1 ≡ headCode (rest s (r .next))
         closes-here (inl y) = absurd (omega (arith, y .1))
@@ -173,7 +179,8 @@ module _ (s : List ℕ) (at : ℕ) (p : Parts) where
       split = e ∙ ap (λ (i : ℕ). c ∷ rest s i) (sym m);
       forward = omega (arith, k .forward z);
       inside = omega (arith, k .inside);
-      holds = h }
+      holds = h;
+    }
 
     pub falsum-read : (o : Parsed) → t .class ≡ 9 → o .next ≡ t .next → Holds (withLeaf (held p) falsum) o → Operand negation s at p o
     unfolding withTree

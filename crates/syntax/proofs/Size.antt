@@ -51,28 +51,32 @@ module _ (c : Count) (n : ℕ) where
   unfolding counted limit
   letter-seen h w b t f = record {
     on = λ z x e k.
-      let g : stands (n - 10) (z .letters) ≡ true = sym (k .seen-is (n - 10) (omega arith)) ∙ sym t ∙ f in
-      rw (letter-is x n e h, g) k;
-    grows = omega arith }
+        let g : stands (n - 10) (z .letters) ≡ true = sym (k .seen-is (n - 10) (omega arith)) ∙ sym t ∙ f in
+        rw (letter-is x n e h, g) k;
+    grows = omega arith;
+  }
 
   pub letter-new : 10 ≤ n → n < 36 → (b : Bool) → b ≡ has (num (c .seen)) (n - 10) → b ≡ false → (one more : AtomSet) → num one ≡ singleOrEmpty (n - 10) → num more ≡ union (num (c .seen)) (num one) → CountsOn c n (record { seen = more; count = c .count + 1 })
   unfolding counted limit
   letter-new h w b t f one more o m = record {
     on = λ z x e k.
-      let g : stands (n - 10) (z .letters) ≡ false = sym (k .seen-is (n - 10) (omega arith)) ∙ sym t ∙ f in
-      rw (letter-is x n e h, g) (record {
-        seen-is = λ j v.
-          ap (λ (y : ℕ). has y j) (m ∙ ap (λ (y : ℕ). union (num (c .seen)) y) (o ∙ single-bits (n - 10) (omega arith)))
-          ∙ has-insert (num (c .seen)) (n - 10) j
-          ∙ ap (λ (y : Bool). y || eqb (n - 10) j) (k .seen-is j v)
-          ∙ sym (any-snoc (λ (y : ℕ). eqb y j) (z .letters) (n - 10));
-        count-is = omega (arith, k .count-is, length-append (z .letters) ((n - 10) ∷ [])) });
-    grows = omega arith }
+        let g : stands (n - 10) (z .letters) ≡ false = sym (k .seen-is (n - 10) (omega arith)) ∙ sym t ∙ f in
+        rw (letter-is x n e h, g) (record {
+          seen-is = λ j v.
+              ap (λ (y : ℕ). has y j) (m ∙ ap (λ (y : ℕ). union (num (c .seen)) y) (o ∙ single-bits (n - 10) (omega arith)))
+              ∙ has-insert (num (c .seen)) (n - 10) j
+              ∙ ap (λ (y : Bool). y || eqb (n - 10) j) (k .seen-is j v)
+              ∙ sym (any-snoc (λ (y : ℕ). eqb y j) (z .letters) (n - 10));
+          count-is = omega (arith, k .count-is, length-append (z .letters) ((n - 10) ∷ []));
+        });
+    grows = omega arith;
+  }
 
   pub names-more : n < 10 → (k : ℕ) → k ≡ namesBy n → k ≤ 3 → CountsOn c n (record { seen = c .seen; count = c .count + k })
   names-more h k e w = record {
     on = λ z x f q. rw (names-of z x (rw (← f) h), ← f, ← e) (record { seen-is = q .seen-is; count-is = omega (arith, q .count-is) });
-    grows = omega arith }
+    grows = omega arith;
+  }
 
 -- The count up to byte i.
 pub record CountedTo (s : List ℕ) (c : Count) (i : ℕ) : Type 0 where
@@ -88,7 +92,10 @@ module _ (s : List ℕ) where
   count-start e z = record {
     reached = uncounted;
     counts = record { seen-is = λ l h. ap (λ (n : ℕ). has n l) z ∙ has-empty l; count-is = refl };
-    inside = omega arith; small = omega arith; goes-on = refl }
+    inside = omega arith;
+    small = omega arith;
+    goes-on = refl;
+  }
 
   pub count-next : (c : Count) (i n : ℕ) (r : Count) → CountedTo s c i → i < length s → n ≡ codeOf (classOf (getD s i 0)) → CountsOn c n r → CountedTo s r (i + 1)
   count-next c i n r a h e k = record {
@@ -96,7 +103,8 @@ module _ (s : List ℕ) where
     counts = k .on (a .reached) (classOf (getD s i 0)) e (a .counts);
     inside = omega arith;
     small = omega (arith, k .grows, a .small);
-    goes-on = a .goes-on ∙ after-byte counted (a .reached) s i h }
+    goes-on = a .goes-on ∙ after-byte counted (a .reached) s i h;
+  }
 
   pub count-end : (c : Count) (i : ℕ) → CountedTo s c i → length s ≤ i → c .count ≡ sizeOf s
   unfolding sizeOf

@@ -19,10 +19,7 @@ pub fn empty() -> Parts
 {
     let part = Part::Falsum;
     let nodes = [Node { part }; 65];
-    Parts {
-        nodes,
-        count: 0,
-    }
+    Parts { nodes, count: 0 }
 }
 
 fn push(parts: Parts, part: Part) -> Parts
@@ -79,11 +76,7 @@ pub fn leaf(parts: Parts, part: Part, next: usize) -> Parsed
 {
     let root = leaf_at(parts, part);
     if root < parts.count {
-        return Parsed {
-            next,
-            root,
-            parts,
-        };
+        return Parsed { next, root, parts };
     }
     Parsed {
         next,
