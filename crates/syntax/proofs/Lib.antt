@@ -10,5 +10,6 @@ pub mod Run
 pub mod Operand
 pub mod Join
 pub mod Beginning
+pub mod Unique
 pub mod Names
 pub mod Judgement

@@ -2,6 +2,7 @@
 -- what a reader must believe; Scan, Parts and Descent are the terms in which the code's parts speak to each other.
 pub mod Class
 pub mod Grammar
+pub mod Reading
 pub mod Nodes
 pub mod Refusal
 pub mod Scan
