@@ -13,3 +13,4 @@ pub mod Beginning
 pub mod Unique
 pub mod Names
 pub mod Judgement
+pub mod Reader

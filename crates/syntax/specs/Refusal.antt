@@ -35,6 +35,13 @@ pub record Longest (s : List ℕ) (place : ℕ) : Type 0 where
 abbrev pub TooLarge : Tree → Type 0
 TooLarge t = 64 < named (nodes t .table)
 
+-- The lines by their numbers.
+pub data Line (s : List ℕ) : ℕ → Type 0 where
+  by-length : BadLength s → Line s 1
+  by-depth : TooDeep s → Line s 2
+  by-grammar : ¬ IsFormula s → Line s 3
+  by-size : {t : Tree} → Reads s t → TooLarge t → Line s 4
+
 -- "Each number comes when its line holds and no earlier one does, and only then." The place is 0 where none is given.
 pub data Refused (s : List ℕ) : ℕ → ℕ → Type 0 where
   line-1 : BadLength s → Refused s 1 0
