@@ -67,6 +67,7 @@ module _ (s : List ℕ) where
     where
       same-number : Refused s n j → Refused s m k → n ≡ m
       same-number x y = omega (arith, none-before x (only-then y), none-before y (only-then x))
+
       refusals : n ≡ m → Refused s n j → Refused s m k → Refusal n j ≡ Refusal m k
       refusals q x y =
           let z : Refused s m j = subst (λ (i : ℕ). Refused s i j) q x in

@@ -47,12 +47,16 @@ module _ (u v : List Class) (p q w : Tree) (c : Class) (K : Tree → Outer → O
     (shuts : shut q (K p k) ≡ shut w k) (finishes : finish q (K p k) ≡ finish w k) where
   weakest : Alternatives p k (after readToken (want 0 none none k) u) → Whole q (K p k) (after readToken (want 0 none none (K p k)) v) → Whole w k (after readToken (want 0 none none k) (u ++ (c ∷ v)))
   weakest x y = record {
-    last = y .last; left = y .left; outer = y .outer;
+    last = y .last;
+    left = y .left;
+    outer = y .outer;
     reached =
-      then-token (want 0 none none k) u v c (x .reached)
-      ∙ ap (λ (z : Reader). after readToken z v) (step (x .last) (x .left) ∙ ap (λ (t : Tree). want 0 none none (K t k)) (x .whole))
-      ∙ y .reached;
-    shuts = y .shuts ∙ shuts; finishes = y .finishes ∙ finishes }
+        then-token (want 0 none none k) u v c (x .reached)
+        ∙ ap (λ (z : Reader). after readToken z v) (step (x .last) (x .left) ∙ ap (λ (t : Tree). want 0 none none (K t k)) (x .whole))
+        ∙ y .reached;
+    shuts = y .shuts ∙ shuts;
+    finishes = y .finishes ∙ finishes;
+  }
 
 leads : {k : Level} {u : List Class} {t : Tree} → Parses k u t → Leads k u t
 unfolding after readToken negated shut finish
@@ -66,8 +70,11 @@ leads (no-or {p = p} r) = λ k. record { last = p; left = none; whole = refl; re
 leads (by-or {u} {v} {p} {q} r s) = λ k.
     let x = leads r k in
     record {
-      last = q; left = some p; whole = refl;
-      reached = then-token (want 0 none none k) u v bar (x .reached) ∙ ap (λ (t : Tree). after readToken (want 0 none (some t) k) v) (x .whole) ∙ leads s (some p) k }
+      last = q;
+      left = some p;
+      whole = refl;
+      reached = then-token (want 0 none none k) u v bar (x .reached) ∙ ap (λ (t : Tree). after readToken (want 0 none (some t) k) v) (x .whole) ∙ leads s (some p) k;
+    }
 leads (no-implies r) = λ k.
     let x = leads r k in
     record { last = x .last; left = x .left; outer = k; reached = x .reached; shuts = ap (λ (t : Tree). shut t k) (x .whole); finishes = ap (λ (t : Tree). finish t k) (x .whole) }

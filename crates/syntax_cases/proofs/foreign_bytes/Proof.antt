@@ -1,0 +1,77 @@
+use mathlib.Core.Path.{sym}
+use lib.Seq.{length-take-le}
+use borrow.Author.Needs.{needs}
+use native.Mathlib.Omega.{arith}
+use Rattle.syntax_cases.proofs.foreign_bytes.Statement.{statement}
+use Rattle.syntax_cases.proofs.foreign_bytes.Tie as tie
+use Rattle.syntax_cases.proofs.foreign_bytes.Reads as reads
+use Rattle.syntax_cases.proofs.foreign_bytes.Lts as lts
+use Rattle.syntax_cases.proofs.fill.Reads as fill-reads
+use Rattle.syntax_cases.proofs.foreign_byte.Reads as foreign-byte-reads
+use Rattle.syntax_cases.proofs.print.Reads as print-reads
+use Rattle.syntax_cases.proofs.print_number.Reads as print-number-reads
+
+slice-aggregate-fill : tie.Need-slice-aggregate-fill
+slice-aggregate-fill c = search needs
+
+slice-aggregate-fill-2 : tie.Need-slice-aggregate-fill-2
+slice-aggregate-fill-2 c = search needs
+
+fill-requires : tie.Need-fill-requires
+fill-requires c κs = search needs
+
+slice-aggregate-fill-3 : tie.Need-slice-aggregate-fill-3
+slice-aggregate-fill-3 c = search needs
+
+slice-aggregate-fill-4 : tie.Need-slice-aggregate-fill-4
+slice-aggregate-fill-4 c = search needs
+
+fill-requires-2 : tie.Need-fill-requires-2
+fill-requires-2 c κs = search needs
+
+slice-aggregate-print : tie.Need-slice-aggregate-print
+slice-aggregate-print c = search needs
+
+print-requires : tie.Need-print-requires
+print-requires c κs = search needs
+
+array-borrow-prefix-buffer : tie.Need-array-borrow-prefix-buffer
+array-borrow-prefix-buffer c = search needs
+
+slice-aggregate-foreign-byte : tie.Need-slice-aggregate-foreign-byte
+slice-aggregate-foreign-byte c = sym (length-take-le _ _ (omega arith))
+
+foreign-byte-requires : tie.Need-foreign-byte-requires
+foreign-byte-requires c κs = search needs
+
+print-number-requires : tie.Need-print-number-requires
+print-number-requires c κs = search needs
+
+slice-aggregate-print-2 : tie.Need-slice-aggregate-print-2
+slice-aggregate-print-2 c = search needs
+
+print-requires-2 : tie.Need-print-requires-2
+print-requires-2 c κs = search needs
+
+returns : tie.Need-returns
+returns c = search needs
+
+pub foreign-bytes-spec : {M : Type 1} → statement M
+foreign-bytes-spec =
+    tie.close
+    (tie.spec
+    slice-aggregate-fill
+    slice-aggregate-fill-2
+    fill-requires
+    slice-aggregate-fill-3
+    slice-aggregate-fill-4
+    fill-requires-2
+    slice-aggregate-print
+    print-requires
+    array-borrow-prefix-buffer
+    slice-aggregate-foreign-byte
+    foreign-byte-requires
+    print-number-requires
+    slice-aggregate-print-2
+    print-requires-2
+    returns)
