@@ -1,4 +1,6 @@
-// Executed cases of the reader: each text, or a description of it, and the answer. `stdout` was worked out apart from this code.
+// Executed cases of the reader: each text, or a description of it, and the answer. The short texts are the lines of `stdin`, first
+// the reader's cases of document 01; `stdout` was worked out apart from this code.
+use libc::STDIN_FILENO;
 use libc::STDOUT_FILENO;
 use syntax::Connective;
 use syntax::Outcome;
@@ -134,57 +136,21 @@ fn show_repeated(unit: &[u8], times: usize, middle: &[u8], end: &[u8], ends: usi
     show(&buffer[..c]);
 }
 
-// The reader's cases of document 01, and how connectives bind and group.
-fn small_texts() {
-    show_text(b"((p>q)>p)>p");
-    show_text(b"p|~p");
-    show_text(b"p>p");
-    show_text(b"0");
-    show_text(b"0>0");
-    show_text(b"p q");
-    show_text(b"(p");
-    show_text(b"");
-    show_text(b" ");
-    show_text(b"   ");
-    show_text(b"p>q>r");
-    show_text(b"p=q=r");
-    show_text(b"p>q=r");
-    show_text(b"p=q>r");
-    show_text(b"p&q&r");
-    show_text(b"p|q|r");
-    show_text(b"p&q|r&s");
-    show_text(b"p|q&r|s");
-    show_text(b"p|q>r&s");
-    show_text(b"~p&~q|~~r>~s");
-    show_text(b"~(p&q)");
-    show_text(b" ( p > q ) = ~ p | q ");
-    show_text(b"p=~p");
-    show_text(b"~0|0");
-    show_text(b"z>a");
+// Each line of the input is a text.
+fn show_lines(s: &[u8]) {
+    let mut start: usize = 0;
+    let mut i: usize = 0;
+    while i < s.len() {
+        if s[i] == b'\n' {
+            show_text(&s[start..i]);
+            start = i + 1;
+        }
+        i += 1;
+    }
 }
 
-fn wrong_texts() {
-    show_text(b")");
-    show_text(b"()");
-    show_text(b"p)");
-    show_text(b"(p))");
-    show_text(b"p>");
-    show_text(b"p>>q");
-    show_text(b"&p");
-    show_text(b"p~");
-    show_text(b"~");
-    show_text(b"(p>q");
-    show_text(b"(p>q)(r)");
-    show_text(b"P");
-    show_text(b"p1");
-    show_text(b"0 0");
-    show_text(b"p \t");
-    show_text(b"p?");
-    show_text(b"  p  q");
-}
-
-// The limits of refusals 1, 2 and 4, and texts that would nest deeply.
-fn limits() {
+// The limits of refusals 2, 1 and 4.
+fn parentheses() {
     show_repeated(b"(", 64, b"", b"", 0);
     show_repeated(b"(", 65, b"", b"", 0);
     show_repeated(b"(", 64, b"p", b")", 64);
@@ -192,14 +158,23 @@ fn limits() {
     show_repeated(b")", 1, b"", b"(", 65);
     show_repeated(b")", 1, b"", b"(", 66);
     show_repeated(b"p)", 1, b"", b"(", 65);
+}
+
+fn lengths() {
     show_repeated(b" ", 4095, b"p", b"", 0);
     show_repeated(b" ", 4096, b"p", b"", 0);
     show_repeated(b" ", 4096, b"", b"", 0);
     show_repeated(b" ", 4097, b"", b"", 0);
+}
+
+fn negations() {
     show_repeated(b"~", 63, b"p", b"", 0);
     show_repeated(b"~", 64, b"p", b"", 0);
     show_repeated(b"~", 64, b"0", b"", 0);
     show_repeated(b"~", 65, b"0", b"", 0);
+}
+
+fn sizes() {
     show_repeated(b"p=", 20, b"p", b"", 0);
     show_repeated(b"p=", 21, b"p", b"", 0);
     show_repeated(b"p=", 22, b"p", b"", 0);
@@ -219,7 +194,8 @@ fn limits() {
     );
 }
 
-fn deep_texts() {
+// Texts that would nest deeply.
+fn long_chains() {
     show_repeated(b"~", 4096, b"", b"", 0);
     show_repeated(b"~", 4095, b"p", b"", 0);
     show_repeated(b"p>", 2048, b"", b"", 0);
@@ -227,6 +203,9 @@ fn deep_texts() {
     show_repeated(b"p=", 2047, b"p", b"", 0);
     show_repeated(b"p&", 2047, b"p", b"", 0);
     show_repeated(b"p|", 2047, b"p", b"", 0);
+}
+
+fn deep_texts() {
     show_repeated(b"(~", 63, b"p", b")", 63);
     show_repeated(b"(p>", 63, b"p", b")", 63);
     show_repeated(b"(p=", 21, b"p", b")", 21);
@@ -328,9 +307,14 @@ fn foreign_bytes() {
 }
 
 fn main() {
-    small_texts();
-    wrong_texts();
-    limits();
+    let mut input = [0u8; 4096];
+    let n = io::read_full(STDIN_FILENO, &mut input);
+    show_lines(&input[..n]);
+    parentheses();
+    lengths();
+    negations();
+    sizes();
+    long_chains();
     deep_texts();
     wrong_bytes();
     foreign_bytes();

@@ -1,0 +1,68 @@
+-- The line starts before the byte that is looked at.
+use mathlib.Core.Logic.{⊎-elim}
+use Prim.Native.Nat.{_-_, _≤_}
+use lib.ListN.{length}
+use borrow.Author.Needs.{needs}
+use native.Mathlib.Omega.{arith}
+use Rattle.syntax_cases.proofs.show_lines.Statement.{statement}
+use Rattle.syntax_cases.proofs.show_lines.Tie as tie
+use Rattle.syntax_cases.proofs.show_lines.Reads as reads
+use Rattle.syntax_cases.proofs.show_lines.Lts as lts
+use Rattle.syntax_cases.proofs.show_text.Reads as show-text-reads
+
+abbrev Inv-loop : tie.InvT-loop
+Inv-loop s start₀ i₀ start i = (start ≤ i) × (i ≤ length s)
+
+abbrev μ-loop : tie.MeasureT-loop
+μ-loop s start₀ i₀ start i = length s - i
+
+loop-holds : tie.Need-loop-holds Inv-loop μ-loop
+loop-holds c = search needs
+
+shared-slice-read-if1 : tie.Need-shared-slice-read-if1 Inv-loop μ-loop
+shared-slice-read-if1 c = search needs
+
+sub-show-text : tie.Need-sub-show-text Inv-loop μ-loop
+sub-show-text c = search needs
+
+part-show-text-start : tie.Need-part-show-text-start Inv-loop μ-loop
+part-show-text-start c = search needs
+
+part-show-text-end : tie.Need-part-show-text-end Inv-loop μ-loop
+part-show-text-end c = search needs
+
+show-text-requires : tie.Need-show-text-requires Inv-loop μ-loop
+show-text-requires c κs = search needs
+
+add-start : tie.Need-add-start Inv-loop μ-loop
+add-start c = search needs
+
+add-i : tie.Need-add-i Inv-loop μ-loop
+add-i c = search needs
+
+loop-less : tie.Need-loop-less Inv-loop μ-loop
+loop-less c = search needs
+
+loop-again : tie.Need-loop-again Inv-loop μ-loop
+loop-again c = ⊎-elim (λ w. omega arith) (λ w. omega arith) (c .if1 .came)
+
+returns : tie.Need-returns Inv-loop μ-loop
+returns c = search needs
+
+pub show-lines-spec : {M : Type 1} → statement M
+show-lines-spec =
+    tie.close
+    (tie.spec
+    Inv-loop
+    μ-loop
+    loop-holds
+    shared-slice-read-if1
+    sub-show-text
+    part-show-text-start
+    part-show-text-end
+    show-text-requires
+    add-start
+    add-i
+    loop-less
+    loop-again
+    returns)
