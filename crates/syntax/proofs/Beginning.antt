@@ -2,13 +2,13 @@
 use mathlib.Core.Bool.{Bool, true, false, cond}
 use mathlib.Core.List.{List, [], _∷_, _++_, map, append-assoc, append-nil}
 use mathlib.Core.Path.{_≡_, refl, sym, _∙_, ap, subst}
-use Prim.Native.Nat.{ℕ, zero, suc, _+_, _≤_, _<_}
+use Prim.Native.Nat.{ℕ, zero, suc, _≤_}
 use native.Mathlib.Omega.{arith}
 use lib.Dec.{eqb}
 use lib.ListN.{length, take, replicate}
-use borrow.Author.Tests.{eqb-true, eqb-false}
+use borrow.Author.Tests.{eqb-false}
 use Rattle.syntax.specs.Class.{Class, foreign, closing, ampersand, bar, greater, equals, blank, tilde, opening, nought, lowercase, classOf, codeOf, tokens, after}
-use Rattle.syntax.specs.Grammar.{Tree, Level, negation, implication, Parses, a-letter, a-falsum, inside, no-and, no-or, no-implies, IsFormula, Begins}
+use Rattle.syntax.specs.Grammar.{negation, implication, a-letter, a-falsum, inside, no-and, no-or, no-implies, IsFormula, Begins}
 use Rattle.syntax.specs.Refusal.{Longest}
 use Rattle.syntax.specs.Scan.{State, misfit, wanted, had, move, unlessMisfit, fitting, scanned}
 use Rattle.syntax.proofs.Class.{blank-byte, tokens-append, after-append, after-tokens}

@@ -1,13 +1,13 @@
 -- Rows of a table: one more, and a leaf found again.
-use mathlib.Core.Bool.{Bool, true, false, cond}
-use mathlib.Core.List.{List, [], _∷_, _++_, map}
+use mathlib.Core.Bool.{Bool, true, false}
+use mathlib.Core.List.{List, [], _∷_, _++_}
 use mathlib.Core.Path.{_≡_, refl, sym, _∙_, ap, subst}
-use Prim.Native.Nat.{ℕ, zero, suc, _+_, _-_, _≤_, _<_}
+use Prim.Native.Nat.{ℕ, suc, _+_, _≤_, _<_}
 use native.Mathlib.Numerals.{add-one}
 use native.Mathlib.Nat.{add-zero}
 use native.Mathlib.Omega.{arith}
 use lib.Dec.{ltb}
-use lib.ListN.{length, getD, take, drop, set, length-set, length-append, length-map, List·getD-map, drop-of-length-le}
+use lib.ListN.{length, getD, take, drop, length-set, length-append, length-map, List·getD-map, drop-of-length-le}
 use lib.Seq.{length-take-le, take-suc-set, getD-take, drop-cons}
 use borrow.Author.Tests.{lt-ltb, le-ltb}
 use Rattle.atoms.proofs.Truth.{by-cond}

@@ -1,8 +1,8 @@
 -- Formulas joined without parentheses are formulas, at whatever levels they stand.
-use mathlib.Core.List.{List, [], _∷_, _++_, append-assoc}
-use mathlib.Core.Path.{_≡_, sym, subst}
+use mathlib.Core.List.{List, _∷_, _++_, append-assoc}
+use mathlib.Core.Path.{sym, subst}
 use Rattle.syntax.specs.Class.{Class, ampersand, bar, greater, equals, tilde}
-use Rattle.syntax.specs.Grammar.{Tree, Level, negation, conjunction, disjunction, implication, Parses, a-letter, a-falsum, by-not, inside, no-and, by-and, no-or, by-or, no-implies, by-implies, by-equal}
+use Rattle.syntax.specs.Grammar.{Tree, Level, conjunction, disjunction, implication, Parses, a-letter, a-falsum, by-not, inside, no-and, by-and, no-or, by-or, no-implies, by-implies, by-equal}
 
 -- The tokens are a formula of the level.
 abbrev pub Some : Level → List Class → Type 0

@@ -2,14 +2,14 @@
 use mathlib.Core.Bool.{Bool, true, false}
 use mathlib.Core.List.{List, [], _++_, append-nil}
 use mathlib.Core.Logic.{_⊎_, inl, inr}
-use mathlib.Core.Path.{_≡_, refl, sym, _∙_, ap, subst}
+use mathlib.Core.Path.{_≡_, sym, _∙_, ap, subst}
 use Prim.Native.Nat.{ℕ, _≤_, _<_}
 use native.Mathlib.Omega.{arith}
 use lib.ListN.{length, drop}
 use Rattle.syntax.specs.Class.{Class, tokens, after}
-use Rattle.syntax.specs.Grammar.{Tree, Level, implication, Reads, Parses}
-use Rattle.syntax.specs.Nodes.{Entry, Named, withTree, nodes, named}
-use Rattle.syntax.specs.Refusal.{BadLength, TooDeep, Longest, Refused, line-1, line-2, line-3, line-4, Decides}
+use Rattle.syntax.specs.Grammar.{implication, Reads, Parses}
+use Rattle.syntax.specs.Nodes.{Entry, Named, withTree, nodes}
+use Rattle.syntax.specs.Refusal.{BadLength, TooDeep, Longest, Refused, line-2, line-3, line-4, Decides}
 use Rattle.syntax.specs.Scan.{had, move, Scanned, scanned}
 use Rattle.syntax.specs.Size.{sizeOf}
 use Rattle.syntax.specs.Parts.{held, Empty}
@@ -19,7 +19,7 @@ use Rattle.syntax.specs.declared.Outcome.{Outcome}
 use Rattle.syntax.specs.declared.Parts.{Parts}
 use Rattle.syntax.specs.declared.Reading.{Reading}
 use Rattle.syntax.specs.declared.passes.Scan.{Scan}
-use Rattle.syntax.specs.declared.passes.Scan.the-variants.{Whole, Fault}
+use Rattle.syntax.specs.declared.passes.Scan.the-variants.{Fault}
 use Rattle.syntax.specs.declared.table.Parsed.{Parsed}
 use Rattle.syntax.proofs.Class.{no-blank}
 use Rattle.syntax.proofs.Run.{ends-or-closes}

@@ -2,16 +2,16 @@
 use mathlib.Core.List.{List, [], _∷_, _++_, append-assoc}
 use mathlib.Core.Logic.{_⊎_, inl, inr}
 use mathlib.Core.Path.{_≡_, refl, sym, _∙_, ap, subst}
-use Prim.Native.Nat.{ℕ, suc, _+_, _-_, _≤_, _<_}
+use Prim.Native.Nat.{ℕ, suc, _-_, _≤_, _<_}
 use native.Mathlib.Omega.{arith}
 use lib.ListN.{length, drop}
-use Rattle.syntax.specs.Class.{Class, closing, ampersand, bar, greater, equals, blank, tilde, opening, nought, lowercase, tokens, codeOf, after}
+use Rattle.syntax.specs.Class.{Class, closing, blank, tilde, opening, nought, lowercase, after}
 use Rattle.syntax.specs.Grammar as grammar
 use Rattle.syntax.specs.Grammar.{Tree, Level, negation, conjunction, disjunction, implication, Parses, a-letter, a-falsum, by-not, inside, no-and, by-and, no-or, by-or, no-implies, by-implies, by-equal}
 use Rattle.syntax.specs.Nodes.{Connective, And, Or, Implies, Entry, falsum, Named, withLeaf, withCompound, withEquivalence, withTree}
 use Rattle.syntax.specs.Scan.{State, wanted, had, move}
-use Rattle.syntax.specs.Parts.{held, room, Sound, Holds, withNegation}
-use Rattle.syntax.specs.Descent.{rest, headCode, tail, NextToken, Wanted, Operand, Stops, Asks, Gives}
+use Rattle.syntax.specs.Parts.{held, room, Holds, withNegation}
+use Rattle.syntax.specs.Descent.{rest, headCode, NextToken, Wanted, Operand, Stops}
 use Rattle.syntax.specs.declared.Parts.{Parts}
 use Rattle.syntax.specs.declared.bytes.Token.{Token}
 use Rattle.syntax.specs.declared.table.Parsed.{Parsed}

@@ -1,15 +1,14 @@
 -- What the reader's contract `Answers` fixes: for every text, the one answer that document 01 gives it.
-use mathlib.Core.List.{List, []}
+use mathlib.Core.List.{List}
 use mathlib.Core.Logic.{_↔_}
 use mathlib.Core.Path.{_≡_, refl, sym, _∙_, ap, subst}
 use Prim.Native.Nat.{ℕ, _≤_}
 use native.Mathlib.Omega.{arith}
-use lib.ListN.{length}
-use Rattle.syntax.specs.Grammar.{Tree, Reads, IsFormula}
-use Rattle.syntax.specs.Nodes.{Named, nodes, named}
-use Rattle.syntax.specs.Refusal.{BadLength, TooDeep, TooLarge, Longest, Line, by-length, by-depth, by-grammar, by-size, Refused, line-1, line-2, line-3, line-4, Accepted}
+use Rattle.syntax.specs.Grammar.{Tree, Reads}
+use Rattle.syntax.specs.Nodes.{Named, nodes}
+use Rattle.syntax.specs.Refusal.{TooLarge, Longest, Line, by-length, by-depth, by-grammar, by-size, Refused, line-1, line-2, line-3, line-4, Accepted}
 use Rattle.syntax.specs.Parts.{held}
-use Rattle.syntax.specs.Answer.{Read, AnswersWith, Answers}
+use Rattle.syntax.specs.Answer.{AnswersWith, Answers}
 use Rattle.syntax.specs.declared.Outcome.{Outcome}
 use Rattle.syntax.specs.declared.Outcome.the-variants.{Refusal, Formula}
 use Rattle.syntax.specs.declared.Parts.{Parts}

@@ -1,8 +1,8 @@
 -- The scan over tokens: what a formula does to it, and which token can come next where the text fits to its end.
-use mathlib.Core.List.{List, [], _∷_, _++_}
+use mathlib.Core.List.{List, [], _∷_}
 use mathlib.Core.Logic.{_⊎_, inl, inr}
 use mathlib.Core.Path.{_≡_, refl, sym, _∙_, ap}
-use Prim.Native.Nat.{ℕ, zero, suc, _+_, _≤_, _<_}
+use Prim.Native.Nat.{ℕ, zero, suc, _≤_, _<_}
 use native.Mathlib.Omega.{arith}
 use Rattle.syntax.specs.Class.{Class, foreign, closing, ampersand, bar, greater, equals, blank, tilde, opening, nought, lowercase, codeOf, after}
 use Rattle.syntax.specs.Grammar.{Tree, Level, implication, Parses, a-letter, a-falsum, by-not, inside, no-and, by-and, no-or, by-or, no-implies, by-implies, by-equal}

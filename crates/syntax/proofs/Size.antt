@@ -1,9 +1,8 @@
 -- The count for refusal 4, byte by byte.
-use mathlib.Core.Bool.{Bool, true, false, cond, _||_}
+use mathlib.Core.Bool.{Bool, true, false, _||_}
 use mathlib.Core.List.{List, [], _∷_, _++_, map}
-use mathlib.Core.Path.{_≡_, refl, sym, _∙_, ap, subst}
-use Prim.Native.Nat.{ℕ, suc, _+_, _-_, _*_, _≤_, _<_}
-use native.Mathlib.Nat.{add-zero}
+use mathlib.Core.Path.{_≡_, refl, sym, _∙_, ap}
+use Prim.Native.Nat.{ℕ, _+_, _-_, _*_, _≤_, _<_}
 use native.Mathlib.Omega.{arith}
 use lib.Dec.{eqb}
 use lib.ListN.{length, getD, drop, length-append}
@@ -14,7 +13,7 @@ use Rattle.atoms.proofs.Machine.{single-bits}
 use Rattle.atoms.proofs.Members.{has-insert, has-empty}
 use Rattle.ipl.specs.Lists.{any}
 use Rattle.syntax.specs.Class.{Class, foreign, closing, ampersand, bar, greater, equals, blank, tilde, opening, nought, lowercase, classOf, codeOf, after}
-use Rattle.syntax.specs.Size.{Size, stands, withNames, withLetter, counted, total, uncounted, sizeOf, namesBy, Counts, CountsOn}
+use Rattle.syntax.specs.Size.{Size, stands, withNames, counted, total, uncounted, sizeOf, namesBy, Counts, CountsOn}
 use Rattle.syntax.specs.declared.passes.Count.{Count}
 use Rattle.syntax.proofs.Class.{letter-is, after-byte, after-end}
 

@@ -4,17 +4,8 @@ use Rattle.syntax.specs.Refusal.{BadLength, TooDeep, line-1}
 use Rattle.syntax.specs.Scan.{had, Scanned, scanned}
 use Rattle.syntax.proofs.Judgement.{answer-refused, length-right, refused-deep, depth-right, refused-fault, refused-large, accepted, start-asks}
 use borrow.Author.Needs.{needs}
-use native.Mathlib.Omega.{arith}
 use Rattle.syntax.proofs.read.Statement.{statement}
 use Rattle.syntax.proofs.read.Tie as tie
-use Rattle.syntax.proofs.read.Reads as reads
-use Rattle.syntax.proofs.read.Lts as lts
-use Rattle.syntax.proofs.descent.implication.Reads as implication-reads
-use Rattle.syntax.proofs.passes.find_fault.Reads as find-fault-reads
-use Rattle.syntax.proofs.passes.size.Reads as size-reads
-use Rattle.syntax.proofs.passes.too_deep.Reads as too-deep-reads
-use Rattle.syntax.proofs.refused.Reads as refused-reads
-use Rattle.syntax.proofs.table.empty.Reads as empty-reads
 
 -- No line holds before the one that is judged.
 length-is : (c : tie.Else2) → BadLength (c .before .before .before .args .text .now) → ⊥

@@ -3,12 +3,8 @@ use mathlib.Core.Path.{_≡_}
 use Prim.Native.Nat.{_-_, _<_, _≤_}
 use lib.ListN.{length}
 use borrow.Author.Needs.{needs}
-use native.Mathlib.Omega.{arith}
 use Rattle.syntax_cases.proofs.bytes_at.Statement.{statement}
 use Rattle.syntax_cases.proofs.bytes_at.Tie as tie
-use Rattle.syntax_cases.proofs.bytes_at.Reads as reads
-use Rattle.syntax_cases.proofs.bytes_at.Lts as lts
-use Rattle.syntax_cases.proofs.digest.Reads as digest-reads
 
 abbrev Inv-loop : tie.InvT-loop
 Inv-loop s₀ i sum kept all₀ b₀ s all b = (length s ≡ length s₀) × (all < 1000003) × (b ≤ 255)

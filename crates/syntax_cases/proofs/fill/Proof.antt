@@ -3,12 +3,8 @@ use mathlib.Core.Path.{_≡_}
 use Prim.Native.Nat.{_-_, _≤_}
 use lib.ListN.{length}
 use borrow.Author.Needs.{needs}
-use native.Mathlib.Omega.{arith}
 use Rattle.syntax_cases.proofs.fill.Statement.{statement}
 use Rattle.syntax_cases.proofs.fill.Tie as tie
-use Rattle.syntax_cases.proofs.fill.Reads as reads
-use Rattle.syntax_cases.proofs.fill.Lts as lts
-use Rattle.syntax_cases.proofs.write.Reads as write-reads
 
 abbrev Inv-loop : tie.InvT-loop
 Inv-loop buffer₀ from unit times at₀ k₀ buffer at k = (at ≤ length buffer₀) × (length buffer ≡ length buffer₀)

@@ -3,12 +3,8 @@ use mathlib.Core.Path.{_≡_}
 use Prim.Native.Nat.{_-_, _<_}
 use lib.ListN.{length}
 use borrow.Author.Needs.{needs}
-use native.Mathlib.Omega.{arith}
 use Rattle.syntax_cases.proofs.foreign_byte.Statement.{statement}
 use Rattle.syntax_cases.proofs.foreign_byte.Tie as tie
-use Rattle.syntax_cases.proofs.foreign_byte.Reads as reads
-use Rattle.syntax_cases.proofs.foreign_byte.Lts as lts
-use Rattle.syntax_cases.proofs.digest.Reads as digest-reads
 
 abbrev Inv-loop : tie.InvT-loop
 Inv-loop s₀ all₀ i₀ s all i = (all < 1000003) × (length s ≡ length s₀)

@@ -4,12 +4,6 @@ use borrow.Author.Needs.{needs}
 use native.Mathlib.Omega.{arith}
 use Rattle.syntax_cases.proofs.foreign_bytes.Statement.{statement}
 use Rattle.syntax_cases.proofs.foreign_bytes.Tie as tie
-use Rattle.syntax_cases.proofs.foreign_bytes.Reads as reads
-use Rattle.syntax_cases.proofs.foreign_bytes.Lts as lts
-use Rattle.syntax_cases.proofs.fill.Reads as fill-reads
-use Rattle.syntax_cases.proofs.foreign_byte.Reads as foreign-byte-reads
-use Rattle.syntax_cases.proofs.print.Reads as print-reads
-use Rattle.syntax_cases.proofs.print_number.Reads as print-number-reads
 
 slice-aggregate-fill : tie.Need-slice-aggregate-fill
 slice-aggregate-fill c = search needs

@@ -1,13 +1,8 @@
 -- All 65 rows are passed over.
 use Prim.Native.Nat.{_-_, _≤_}
 use borrow.Author.Needs.{needs}
-use native.Mathlib.Omega.{arith}
 use Rattle.syntax_cases.proofs.print_parts.Statement.{statement}
 use Rattle.syntax_cases.proofs.print_parts.Tie as tie
-use Rattle.syntax_cases.proofs.print_parts.Reads as reads
-use Rattle.syntax_cases.proofs.print_parts.Lts as lts
-use Rattle.syntax_cases.proofs.print.Reads as print-reads
-use Rattle.syntax_cases.proofs.print_part.Reads as print-part-reads
 
 abbrev Inv-loop : tie.InvT-loop
 Inv-loop parts i₀ t6 i = i ≤ 65

@@ -6,9 +6,6 @@ use borrow.Author.Needs.{needs}
 use native.Mathlib.Omega.{arith}
 use Rattle.syntax_cases.proofs.show_lines.Statement.{statement}
 use Rattle.syntax_cases.proofs.show_lines.Tie as tie
-use Rattle.syntax_cases.proofs.show_lines.Reads as reads
-use Rattle.syntax_cases.proofs.show_lines.Lts as lts
-use Rattle.syntax_cases.proofs.show_text.Reads as show-text-reads
 
 abbrev Inv-loop : tie.InvT-loop
 Inv-loop s start₀ i₀ start i = (start ≤ i) × (i ≤ length s)

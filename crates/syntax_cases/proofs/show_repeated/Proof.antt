@@ -4,12 +4,6 @@ use borrow.Author.Needs.{needs}
 use native.Mathlib.Omega.{arith}
 use Rattle.syntax_cases.proofs.show_repeated.Statement.{statement}
 use Rattle.syntax_cases.proofs.show_repeated.Tie as tie
-use Rattle.syntax_cases.proofs.show_repeated.Reads as reads
-use Rattle.syntax_cases.proofs.show_repeated.Lts as lts
-use Rattle.syntax_cases.proofs.describe.Reads as describe-reads
-use Rattle.syntax_cases.proofs.fill.Reads as fill-reads
-use Rattle.syntax_cases.proofs.print.Reads as print-reads
-use Rattle.syntax_cases.proofs.show.Reads as show-reads
 
 describe-requires : tie.Need-describe-requires
 describe-requires c κs = search needs

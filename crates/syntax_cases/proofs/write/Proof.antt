@@ -3,11 +3,8 @@ use mathlib.Core.Path.{_≡_}
 use Prim.Native.Nat.{_-_, _≤_}
 use lib.ListN.{length}
 use borrow.Author.Needs.{needs}
-use native.Mathlib.Omega.{arith}
 use Rattle.syntax_cases.proofs.write.Statement.{statement}
 use Rattle.syntax_cases.proofs.write.Tie as tie
-use Rattle.syntax_cases.proofs.write.Reads as reads
-use Rattle.syntax_cases.proofs.write.Lts as lts
 
 abbrev Inv-loop : tie.InvT-loop
 Inv-loop buffer₀ from unit at₀ j₀ buffer at j = (at ≤ length buffer₀) × (j ≤ length unit) × (length buffer ≡ length buffer₀)

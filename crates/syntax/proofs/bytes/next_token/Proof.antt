@@ -4,14 +4,11 @@ use mathlib.Core.Path.{_≡_, refl, sym, _∙_}
 use Prim.Native.Nat.{_≤_, _-_}
 use lib.ListN.{length}
 use Rattle.syntax.specs.Descent.{rest}
-use Rattle.syntax.proofs.Class.{rest-end, rest-blank, rest-token}
+use Rattle.syntax.proofs.Class.{rest-blank}
 use borrow.Author.Needs.{needs}
 use native.Mathlib.Omega.{arith}
 use Rattle.syntax.proofs.bytes.next_token.Statement.{statement}
 use Rattle.syntax.proofs.bytes.next_token.Tie as tie
-use Rattle.syntax.proofs.bytes.next_token.Reads as reads
-use Rattle.syntax.proofs.bytes.next_token.Lts as lts
-use Rattle.syntax.proofs.bytes.class_of.Reads as class-of-reads
 
 abbrev Inv-loop : tie.InvT-loop
 Inv-loop s at i₀ i = (at ≤ i) × (i ≤ length s) × (rest s i ≡ rest s at)

@@ -1,6 +1,5 @@
 -- The cycle of calls of the reader functions: the bytes left fall. Each answer cites a law of Operand.
-use borrow.Author.Needs.{needs}
-use mathlib.Core.Path.{_≡_, refl, sym, _∙_}
+use mathlib.Core.Path.{_≡_, refl, _∙_}
 use Prim.Native.Nat.{ℕ, _+_, _-_, _*_, _<_}
 use lib.ListN.{length}
 use borrow.Fn.Kinds.{In}
@@ -11,7 +10,7 @@ use Rattle.syntax.specs.Grammar.{Level}
 use Rattle.syntax.specs.Descent.{rest, headCode, Operand}
 use Rattle.syntax.specs.declared.Parts.{Parts}
 use Rattle.syntax.proofs.Position.{token-forward}
-use Rattle.syntax.proofs.Operand.{past, wanted-after, wanted-not, wanted-inside, operand-class, joined-and, joined-or, joined-implies, joined-equal, single-and, single-or, single-implies, negated, parenthesized, falsum-read, letter-read}
+use Rattle.syntax.proofs.Operand.{wanted-after, wanted-not, wanted-inside, operand-class, joined-and, joined-or, joined-implies, joined-equal, single-and, single-or, single-implies, negated, parenthesized, falsum-read, letter-read}
 use Rattle.syntax.proofs.descent.conjunction.Reads as conjunction
 use Rattle.syntax.proofs.descent.conjunction.Kinds as conjunction-kinds
 use Rattle.syntax.proofs.descent.+conjunction+disjunction+implication+negation.Lts-conjunction as conjunction-lts

@@ -1,14 +1,7 @@
 use Rattle.syntax.proofs.Size.{letter-seen, letter-new, names-more}
 use borrow.Author.Needs.{needs}
-use native.Mathlib.Omega.{arith}
 use Rattle.syntax.proofs.passes.counted.Statement.{statement}
 use Rattle.syntax.proofs.passes.counted.Tie as tie
-use Rattle.syntax.proofs.passes.counted.Reads as reads
-use Rattle.syntax.proofs.passes.counted.Lts as lts
-use Rattle.atoms.proofs.AtomSet.has.Reads as has-reads
-use Rattle.atoms.proofs.AtomSet.join.Reads as join-reads
-use Rattle.atoms.proofs.AtomSet.single.Reads as single-reads
-use Rattle.syntax.proofs.passes.names_of.Reads as names-of-reads
 
 has-requires : tie.Need-has-requires
 has-requires c κs = search needs

@@ -5,13 +5,8 @@ use Prim.Native.Nat.{_-_}
 use lib.ListN.{length}
 use Rattle.syntax.proofs.Fault.{ScannedTo}
 use borrow.Author.Needs.{needs}
-use native.Mathlib.Omega.{arith}
 use Rattle.syntax.proofs.passes.find_fault.Statement.{statement}
 use Rattle.syntax.proofs.passes.find_fault.Tie as tie
-use Rattle.syntax.proofs.passes.find_fault.Reads as reads
-use Rattle.syntax.proofs.passes.find_fault.Lts as lts
-use Rattle.syntax.proofs.bytes.class_of.Reads as class-of-reads
-use Rattle.syntax.proofs.passes.step.Reads as step-reads
 
 abbrev Inv-loop : tie.InvT-loop
 Inv-loop s operand₀ depth₀ i₀ operand depth i = ScannedTo s operand depth i

@@ -1,10 +1,7 @@
 use borrow.Author.Tests.{eq-eqb, ne-eqb, lt-ltb, le-ltb}
-use borrow.Author.Needs.{needs}
 use native.Mathlib.Omega.{arith}
 use Rattle.syntax.proofs.passes.names_of.Statement.{statement}
 use Rattle.syntax.proofs.passes.names_of.Tie as tie
-use Rattle.syntax.proofs.passes.names_of.Reads as reads
-use Rattle.syntax.proofs.passes.names_of.Lts as lts
 
 returns : tie.Need-returns
 returns c = (rw (eq-eqb _ 5 (c .if1 .taken)), omega arith)

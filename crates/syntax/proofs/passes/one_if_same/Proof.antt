@@ -1,10 +1,7 @@
 use borrow.Author.Tests.{eq-eqb, ne-eqb}
-use borrow.Author.Needs.{needs}
 use native.Mathlib.Omega.{arith}
 use Rattle.syntax.proofs.passes.one_if_same.Statement.{statement}
 use Rattle.syntax.proofs.passes.one_if_same.Tie as tie
-use Rattle.syntax.proofs.passes.one_if_same.Reads as reads
-use Rattle.syntax.proofs.passes.one_if_same.Lts as lts
 
 returns : tie.Need-returns
 returns c = (rw (eq-eqb _ _ (c .if1 .taken)), omega arith)

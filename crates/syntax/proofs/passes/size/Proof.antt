@@ -10,10 +10,6 @@ use borrow.Author.Needs.{needs}
 use native.Mathlib.Omega.{arith}
 use Rattle.syntax.proofs.passes.size.Statement.{statement}
 use Rattle.syntax.proofs.passes.size.Tie as tie
-use Rattle.syntax.proofs.passes.size.Reads as reads
-use Rattle.syntax.proofs.passes.size.Lts as lts
-use Rattle.syntax.proofs.bytes.class_of.Reads as class-of-reads
-use Rattle.syntax.proofs.passes.counted.Reads as counted-reads
 
 abbrev Inv-loop : tie.InvT-loop
 Inv-loop s c₀ i₀ c i = CountedTo s c i

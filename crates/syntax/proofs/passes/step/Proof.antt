@@ -1,10 +1,7 @@
 use borrow.Author.Tests.{eq-eqb, ne-eqb, lt-ltb, le-ltb}
 use borrow.Author.Needs.{needs}
-use native.Mathlib.Omega.{arith}
 use Rattle.syntax.proofs.passes.step.Statement.{statement}
 use Rattle.syntax.proofs.passes.step.Tie as tie
-use Rattle.syntax.proofs.passes.step.Reads as reads
-use Rattle.syntax.proofs.passes.step.Lts as lts
 
 returns : tie.Need-returns
 returns c = rw (c .before .if1 .taken, lt-ltb _ 6 (c .if2 .taken))

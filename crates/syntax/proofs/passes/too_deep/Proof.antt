@@ -7,9 +7,6 @@ use borrow.Author.Needs.{needs}
 use native.Mathlib.Omega.{arith}
 use Rattle.syntax.proofs.passes.too_deep.Statement.{statement}
 use Rattle.syntax.proofs.passes.too_deep.Tie as tie
-use Rattle.syntax.proofs.passes.too_deep.Reads as reads
-use Rattle.syntax.proofs.passes.too_deep.Lts as lts
-use Rattle.syntax.proofs.passes.one_if_same.Reads as one-if-same-reads
 
 abbrev Inv-loop : tie.InvT-loop
 Inv-loop s opened₀ closed₀ i₀ opened closed i = Shallow s opened closed i

@@ -1,12 +1,8 @@
 use mathlib.Core.Path.{refl}
 use Rattle.syntax.proofs.Held.{holds-compound}
 use borrow.Author.Needs.{needs}
-use native.Mathlib.Omega.{arith}
 use Rattle.syntax.proofs.table.compound.Statement.{statement}
 use Rattle.syntax.proofs.table.compound.Tie as tie
-use Rattle.syntax.proofs.table.compound.Reads as reads
-use Rattle.syntax.proofs.table.compound.Lts as lts
-use Rattle.syntax.proofs.table.push.Reads as push-reads
 
 push-requires : tie.Need-push-requires
 push-requires c κs = search needs

@@ -1,12 +1,8 @@
 use mathlib.Core.Path.{_∙_}
 use Rattle.syntax.proofs.Held.{then-equivalence}
 use borrow.Author.Needs.{needs}
-use native.Mathlib.Omega.{arith}
 use Rattle.syntax.proofs.table.equivalence.Statement.{statement}
 use Rattle.syntax.proofs.table.equivalence.Tie as tie
-use Rattle.syntax.proofs.table.equivalence.Reads as reads
-use Rattle.syntax.proofs.table.equivalence.Lts as lts
-use Rattle.syntax.proofs.table.compound.Reads as compound-reads
 
 compound-requires : tie.Need-compound-requires
 compound-requires c κs = search needs

@@ -1,13 +1,8 @@
 use mathlib.Core.Path.{refl}
 use Rattle.syntax.proofs.Held.{holds-found, holds-new}
 use borrow.Author.Needs.{needs}
-use native.Mathlib.Omega.{arith}
 use Rattle.syntax.proofs.table.leaf.Statement.{statement}
 use Rattle.syntax.proofs.table.leaf.Tie as tie
-use Rattle.syntax.proofs.table.leaf.Reads as reads
-use Rattle.syntax.proofs.table.leaf.Lts as lts
-use Rattle.syntax.proofs.table.leaf_at.Reads as leaf-at-reads
-use Rattle.syntax.proofs.table.push.Reads as push-reads
 
 leaf-at-requires : tie.Need-leaf-at-requires
 leaf-at-requires c κs = search needs

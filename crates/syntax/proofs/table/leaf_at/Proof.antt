@@ -3,12 +3,8 @@ use Prim.Native.Nat.{_-_}
 use Rattle.syntax.specs.Parts.{entryOf, held}
 use Rattle.syntax.proofs.Held.{NotBefore, leaf-start, leaf-none, held-length, row-here, row-later}
 use borrow.Author.Needs.{needs}
-use native.Mathlib.Omega.{arith}
 use Rattle.syntax.proofs.table.leaf_at.Statement.{statement}
 use Rattle.syntax.proofs.table.leaf_at.Tie as tie
-use Rattle.syntax.proofs.table.leaf_at.Reads as reads
-use Rattle.syntax.proofs.table.leaf_at.Lts as lts
-use Rattle.syntax.proofs.table.same_leaf.Reads as same-leaf-reads
 
 abbrev Inv-loop : tie.InvT-loop
 Inv-loop part parts i₀ i = NotBefore (entryOf part) (held parts) i

@@ -1,13 +1,8 @@
 use mathlib.Core.Path.{_∙_}
 use Rattle.syntax.proofs.Held.{then-negation}
 use borrow.Author.Needs.{needs}
-use native.Mathlib.Omega.{arith}
 use Rattle.syntax.proofs.table.negation.Statement.{statement}
 use Rattle.syntax.proofs.table.negation.Tie as tie
-use Rattle.syntax.proofs.table.negation.Reads as reads
-use Rattle.syntax.proofs.table.negation.Lts as lts
-use Rattle.syntax.proofs.table.compound.Reads as compound-reads
-use Rattle.syntax.proofs.table.leaf.Reads as leaf-reads
 
 leaf-requires : tie.Need-leaf-requires
 leaf-requires c κs = search needs

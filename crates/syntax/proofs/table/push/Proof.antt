@@ -1,10 +1,7 @@
 use borrow.Author.Tests.{lt-ltb, le-ltb}
 use borrow.Author.Needs.{needs}
-use native.Mathlib.Omega.{arith}
 use Rattle.syntax.proofs.table.push.Statement.{statement}
 use Rattle.syntax.proofs.table.push.Tie as tie
-use Rattle.syntax.proofs.table.push.Reads as reads
-use Rattle.syntax.proofs.table.push.Lts as lts
 
 cast-i : tie.Need-cast-i
 cast-i c = search needs

@@ -1,10 +1,7 @@
 use Rattle.syntax.specs.Nodes.{sameLeaf}
 use borrow.Author.Needs.{needs}
-use native.Mathlib.Omega.{arith}
 use Rattle.syntax.proofs.table.same_leaf.Statement.{statement}
 use Rattle.syntax.proofs.table.same_leaf.Tie as tie
-use Rattle.syntax.proofs.table.same_leaf.Reads as reads
-use Rattle.syntax.proofs.table.same_leaf.Lts as lts
 
 enum-known-a : tie.Need-enum-known-a
 enum-known-a c = search needs
