@@ -14,3 +14,5 @@ pub mod Unique
 pub mod Names
 pub mod Judgement
 pub mod Reader
+pub mod Judge
+pub mod Cases

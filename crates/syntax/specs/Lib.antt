@@ -9,4 +9,5 @@ pub mod Scan
 pub mod Size
 pub mod Parts
 pub mod Descent
+pub mod Judge
 pub mod Answer
