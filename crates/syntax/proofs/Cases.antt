@@ -1,11 +1,10 @@
 -- The reader's cases of document 01, each judged from the text's bytes by the definitions.
-use mathlib.Core.Bool.{_||_}
 use mathlib.Core.List.{List, [], _∷_, _++_}
 use mathlib.Core.Path.{_≡_, refl, subst}
 use Prim.Native.Nat.{ℕ}
 use lib.ListN.{replicate}
 use Rattle.syntax.specs.Class.{classOf, tokens, after}
-use Rattle.syntax.specs.Grammar.{Tree, letter, falsum, implies}
+use Rattle.syntax.specs.Grammar.{letter}
 use Rattle.syntax.specs.Reading.{negated, shut, finish, readToken, result, reading}
 use Rattle.syntax.specs.Nodes.{sameLeaf, leafAt, withLeaf, withCompound, withTree, nodes, named}
 use Rattle.syntax.specs.Refusal.{Refused, Accepted}

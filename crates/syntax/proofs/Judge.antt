@@ -1,22 +1,22 @@
 -- The function `judge` judges by the refusals' lines.
-use mathlib.Core.Bool.{Bool, true, false, cond, _||_}
+use mathlib.Core.Bool.{true, false, cond, _||_}
 use mathlib.Core.List.{List, [], _∷_, map}
 use mathlib.Core.Logic.{_⊎_, inl, inr}
 use mathlib.Core.Option.{Option, none, some}
-use mathlib.Core.Path.{_≡_, refl, sym, _∙_, ap}
-use Prim.Native.Nat.{ℕ, zero, suc, _+_, _≤_, _<_}
+use mathlib.Core.Path.{_≡_, refl, sym, _∙_}
+use Prim.Native.Nat.{ℕ, zero, suc, _+_, _<_}
 use native.Mathlib.Omega.{arith}
 use lib.Dec.{eqb, ltb, T}
 use lib.ListN.{length, take}
 use borrow.Author.Tests.{eqb-true, eqb-false, ltb-true, ltb-false}
 use Rattle.atoms.proofs.Truth.{by-cond, nor, T-or, true-T, T-true}
 use Rattle.syntax.specs.Class.{classOf}
-use Rattle.syntax.specs.Grammar.{Tree, IsFormula}
+use Rattle.syntax.specs.Grammar.{Tree}
 use Rattle.syntax.specs.Reading.{reading}
 use Rattle.syntax.specs.Nodes.{nodes, named}
 use Rattle.syntax.specs.Refusal.{BadLength, count, TooDeep, line-1, line-2, line-3, line-4}
 use Rattle.syntax.specs.Scan.{wanted, fitting}
-use Rattle.syntax.specs.Judge.{Judgement, refused, accepted, isByte, deepAfter, judgeTree, judge, Right}
+use Rattle.syntax.specs.Judge.{refused, accepted, isByte, deepAfter, judgeTree, judge, Right}
 use Rattle.syntax.proofs.Unique.{reading-of, reading-reads}
 use Rattle.syntax.proofs.Beginning.{longest}
 

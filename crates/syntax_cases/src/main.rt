@@ -1,5 +1,5 @@
-// Executed cases of the reader: each text, or a description of it, and the answer. The short texts are the lines of `stdin`, first
-// the reader's cases of document 01; `stdout` was worked out apart from this code.
+// Executed cases of the reader: the lines of `stdin` are texts, or describe one, and each is printed with its answer; first come
+// document 01's cases. `stdout` was worked out apart from this code.
 use libc::STDIN_FILENO;
 use libc::STDOUT_FILENO;
 use syntax::Connective;
@@ -77,11 +77,8 @@ fn show(text: &[u8]) {
     print(b"\n");
 }
 
-fn show_text(text: &[u8]) {
-    print(b"[");
-    print(text);
-    print(b"] ");
-    show(text);
+fn sign(b: u8) -> u8 {
+    if b == b'_' { b' ' } else { b }
 }
 
 // Writes a unit from a position on, as far as there is room; the position after it.
@@ -95,7 +92,7 @@ fn write(buffer: &mut [u8], from: usize, unit: &[u8]) -> usize
         if at == buffer.len() {
             return at;
         }
-        buffer[at] = unit[j];
+        buffer[at] = sign(unit[j]);
         at += 1;
         j += 1;
     }
@@ -115,111 +112,102 @@ fn fill(buffer: &mut [u8], from: usize, unit: &[u8], times: usize) -> usize
     at
 }
 
-fn describe(unit: &[u8], times: usize) {
-    print(unit);
-    print(b" * ");
-    print_number(times);
+// A number in a line, and the position after it.
+struct Number {
+    value: usize,
+    next: usize,
 }
 
-// A unit repeated, a middle, and another unit repeated.
-fn show_repeated(unit: &[u8], times: usize, middle: &[u8], end: &[u8], ends: usize) {
-    describe(unit, times);
-    print(b" [");
-    print(middle);
+fn number_at(line: &[u8], at: usize) -> Number
+    requires { ⌜ at ≤ length (now line) ⌝ }
+    ensures { λ r. ⌜ (at ≤ r .next) × (r .next ≤ length (now (line .entry))) ⌝ }
+{
+    let mut value: usize = 0;
+    let mut i = at;
+    while i < line.len() {
+        let b = line[i];
+        if b < b'0' {
+            return Number { value, next: i };
+        }
+        if b'9' < b {
+            return Number { value, next: i };
+        }
+        value = value % 10000 * 10 + wide(b - b'0');
+        i += 1;
+    }
+    Number { value, next: i }
+}
+
+fn wide(b: u8) -> usize
+    ensures { λ r. ⌜ r ≡ b ⌝ }
+{
+    b as usize
+}
+
+fn word_end(line: &[u8], at: usize) -> usize
+    requires { ⌜ at ≤ length (now line) ⌝ }
+    ensures { λ r. ⌜ (at ≤ r) × (r ≤ length (now (line .entry))) ⌝ }
+{
+    let mut i = at;
+    while i < line.len() {
+        if line[i] == b' ' {
+            return i;
+        }
+        i += 1;
+    }
+    i
+}
+
+// The text that a line such as `#64 ( 1 p 64 )` describes: units and how often each stands, `_` for a space.
+fn expand(line: &[u8], buffer: &mut [u8]) -> usize
+    ensures { λ r. ⌜ (r ≤ length (now (buffer .entry))) × (length (now (buffer .exit)) ≡ length (now (buffer .entry))) ⌝ }
+{
+    let mut size: usize = 0;
+    let mut at: usize = 1;
+    while at < line.len() {
+        let times = number_at(line, at);
+        let next = times.next;
+        if next == line.len() {
+            return size;
+        }
+        let start = next + 1;
+        let end = word_end(line, start);
+        size = fill(buffer, size, &line[start..end], times.value);
+        if end == line.len() {
+            return size;
+        }
+        at = end + 1;
+    }
+    size
+}
+
+fn show_line(line: &[u8]) {
+    print(b"[");
+    print(line);
     print(b"] ");
-    describe(end, ends);
-    print(b" ");
+    if line.len() == 0 {
+        show(line);
+        return;
+    }
+    if line[0] != b'#' {
+        show(line);
+        return;
+    }
     let mut buffer = [0u8; 8192];
-    let a = fill(&mut buffer, 0, unit, times);
-    let b = fill(&mut buffer, a, middle, 1);
-    let c = fill(&mut buffer, b, end, ends);
-    show(&buffer[..c]);
+    let n = expand(line, &mut buffer);
+    show(&buffer[..n]);
 }
 
-// Each line of the input is a text.
 fn show_lines(s: &[u8]) {
     let mut start: usize = 0;
     let mut i: usize = 0;
     while i < s.len() {
         if s[i] == b'\n' {
-            show_text(&s[start..i]);
+            show_line(&s[start..i]);
             start = i + 1;
         }
         i += 1;
     }
-}
-
-// The limits of refusals 2, 1 and 4.
-fn parentheses() {
-    show_repeated(b"(", 64, b"", b"", 0);
-    show_repeated(b"(", 65, b"", b"", 0);
-    show_repeated(b"(", 64, b"p", b")", 64);
-    show_repeated(b"(", 65, b"p", b")", 65);
-    show_repeated(b")", 1, b"", b"(", 65);
-    show_repeated(b")", 1, b"", b"(", 66);
-    show_repeated(b"p)", 1, b"", b"(", 65);
-}
-
-fn lengths() {
-    show_repeated(b" ", 4095, b"p", b"", 0);
-    show_repeated(b" ", 4096, b"p", b"", 0);
-    show_repeated(b" ", 4096, b"", b"", 0);
-    show_repeated(b" ", 4097, b"", b"", 0);
-}
-
-fn negations() {
-    show_repeated(b"~", 63, b"p", b"", 0);
-    show_repeated(b"~", 64, b"p", b"", 0);
-    show_repeated(b"~", 64, b"0", b"", 0);
-    show_repeated(b"~", 65, b"0", b"", 0);
-}
-
-fn sizes() {
-    show_repeated(b"p=", 20, b"p", b"", 0);
-    show_repeated(b"p=", 21, b"p", b"", 0);
-    show_repeated(b"p=", 22, b"p", b"", 0);
-    show_repeated(
-        b"a&b&c&d&e&f&g&h&i&j&k&l&m&n&o&p&q&r&s&t&u&v&w&x&y&z",
-        1,
-        b"",
-        b"|a",
-        13,
-    );
-    show_repeated(
-        b"a&b&c&d&e&f&g&h&i&j&k&l&m&n&o&p&q&r&s&t&u&v&w&x&y&z",
-        1,
-        b"",
-        b"|a",
-        14,
-    );
-}
-
-// Texts that would nest deeply.
-fn long_chains() {
-    show_repeated(b"~", 4096, b"", b"", 0);
-    show_repeated(b"~", 4095, b"p", b"", 0);
-    show_repeated(b"p>", 2048, b"", b"", 0);
-    show_repeated(b"p>", 2047, b"p", b"", 0);
-    show_repeated(b"p=", 2047, b"p", b"", 0);
-    show_repeated(b"p&", 2047, b"p", b"", 0);
-    show_repeated(b"p|", 2047, b"p", b"", 0);
-}
-
-fn deep_texts() {
-    show_repeated(b"(~", 63, b"p", b")", 63);
-    show_repeated(b"(p>", 63, b"p", b")", 63);
-    show_repeated(b"(p=", 21, b"p", b")", 21);
-    show_repeated(b"(p&(p|(p>(~", 15, b"((((p))))", b")", 60);
-    show_repeated(
-        b"(p&(p|(p>(p=",
-        10,
-        b"(((((((((((((((((((((((p)))))))))))))))))))))))",
-        b")",
-        40,
-    );
-    show_repeated(b"((((((((((((((((p))))))))))))))))>", 60, b"p", b"", 0);
-    show_repeated(b"(p>p=p&p|~", 64, b"p", b")", 64);
-    show_repeated(b"(p>p=p&p|~", 65, b"p", b")", 65);
 }
 
 // A number that depends on every answer so far, in order.
@@ -310,12 +298,6 @@ fn main() {
     let mut input = [0u8; 4096];
     let n = io::read_full(STDIN_FILENO, &mut input);
     show_lines(&input[..n]);
-    parentheses();
-    lengths();
-    negations();
-    sizes();
-    long_chains();
-    deep_texts();
     wrong_bytes();
     foreign_bytes();
 }

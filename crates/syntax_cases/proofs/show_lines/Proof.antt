@@ -19,17 +19,17 @@ loop-holds c = search needs
 shared-slice-read-if1 : tie.Need-shared-slice-read-if1 Inv-loop μ-loop
 shared-slice-read-if1 c = search needs
 
-sub-show-text : tie.Need-sub-show-text Inv-loop μ-loop
-sub-show-text c = search needs
+sub-show-line : tie.Need-sub-show-line Inv-loop μ-loop
+sub-show-line c = search needs
 
-part-show-text-start : tie.Need-part-show-text-start Inv-loop μ-loop
-part-show-text-start c = search needs
+part-show-line-start : tie.Need-part-show-line-start Inv-loop μ-loop
+part-show-line-start c = search needs
 
-part-show-text-end : tie.Need-part-show-text-end Inv-loop μ-loop
-part-show-text-end c = search needs
+part-show-line-end : tie.Need-part-show-line-end Inv-loop μ-loop
+part-show-line-end c = search needs
 
-show-text-requires : tie.Need-show-text-requires Inv-loop μ-loop
-show-text-requires c κs = search needs
+show-line-requires : tie.Need-show-line-requires Inv-loop μ-loop
+show-line-requires c κs = search needs
 
 add-start : tie.Need-add-start Inv-loop μ-loop
 add-start c = search needs
@@ -54,10 +54,10 @@ show-lines-spec =
     μ-loop
     loop-holds
     shared-slice-read-if1
-    sub-show-text
-    part-show-text-start
-    part-show-text-end
-    show-text-requires
+    sub-show-line
+    part-show-line-start
+    part-show-line-end
+    show-line-requires
     add-start
     add-i
     loop-less

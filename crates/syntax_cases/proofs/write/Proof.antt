@@ -21,8 +21,11 @@ same-length c = search needs
 returns : tie.Need-returns Inv-loop μ-loop
 returns c = search needs
 
-shared-slice-read-buffer : tie.Need-shared-slice-read-buffer Inv-loop μ-loop
-shared-slice-read-buffer c = search needs
+shared-slice-read-sign : tie.Need-shared-slice-read-sign Inv-loop μ-loop
+shared-slice-read-sign c = search needs
+
+sign-requires : tie.Need-sign-requires Inv-loop μ-loop
+sign-requires c κs = search needs
 
 slice-write-buffer : tie.Need-slice-write-buffer Inv-loop μ-loop
 slice-write-buffer c = search needs
@@ -54,7 +57,8 @@ write-spec =
     loop-holds
     same-length
     returns
-    shared-slice-read-buffer
+    shared-slice-read-sign
+    sign-requires
     slice-write-buffer
     add-at
     add-j
