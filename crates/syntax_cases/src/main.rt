@@ -193,7 +193,7 @@ fn show_line(line: &[u8]) {
         show(line);
         return;
     }
-    let mut buffer = [0u8; 8192];
+    let mut buffer = io::large_buffer();
     let n = expand(line, &mut buffer);
     show(&buffer[..n]);
 }
@@ -277,7 +277,7 @@ fn foreign_byte(s: &mut [u8]) -> u64
 }
 
 fn wrong_bytes() {
-    let mut buffer = [0u8; 8192];
+    let mut buffer = io::large_buffer();
     let a = fill(&mut buffer, 0, b"((a>~b)&(c|0) = ~~(d>(e&f)))>", 4);
     let b = fill(&mut buffer, a, b"g", 1);
     print(b"every byte at every place: ");
@@ -286,7 +286,7 @@ fn wrong_bytes() {
 }
 
 fn foreign_bytes() {
-    let mut buffer = [0u8; 8192];
+    let mut buffer = io::large_buffer();
     let a = fill(&mut buffer, 0, b"p>", 2047);
     let b = fill(&mut buffer, a, b"p ", 1);
     print(b"a foreign byte at every place: ");
@@ -295,7 +295,7 @@ fn foreign_bytes() {
 }
 
 fn main() {
-    let mut input = [0u8; 4096];
+    let mut input = io::buffer();
     let n = io::read_full(STDIN_FILENO, &mut input);
     show_lines(&input[..n]);
     wrong_bytes();

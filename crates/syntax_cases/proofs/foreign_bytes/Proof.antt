@@ -1,9 +1,13 @@
+-- What is filled is a part of the buffer.
 use mathlib.Core.Path.{sym}
 use lib.Seq.{length-take-le}
 use borrow.Author.Needs.{needs}
 use native.Mathlib.Omega.{arith}
 use Rattle.syntax_cases.proofs.foreign_bytes.Statement.{statement}
 use Rattle.syntax_cases.proofs.foreign_bytes.Tie as tie
+
+large-buffer-requires : tie.Need-large-buffer-requires
+large-buffer-requires c κs = search needs
 
 slice-aggregate-fill : tie.Need-slice-aggregate-fill
 slice-aggregate-fill c = search needs
@@ -54,6 +58,7 @@ pub foreign-bytes-spec : {M : Type 1} → statement M
 foreign-bytes-spec =
     tie.close
     (tie.spec
+    large-buffer-requires
     slice-aggregate-fill
     slice-aggregate-fill-2
     fill-requires

@@ -1,3 +1,4 @@
+-- What is filled is a part of the buffer.
 use mathlib.Core.Path.{sym}
 use lib.Seq.{length-take-le}
 use borrow.Author.Needs.{needs}
@@ -35,6 +36,9 @@ show-requires-2 c κs = search needs
 returns-2 : tie.Need-returns-2
 returns-2 c = search needs
 
+large-buffer-requires : tie.Need-large-buffer-requires
+large-buffer-requires c κs = search needs
+
 slice-aggregate-expand : tie.Need-slice-aggregate-expand
 slice-aggregate-expand c = search needs
 
@@ -67,6 +71,7 @@ show-line-spec =
     shared-slice-read-if2
     show-requires-2
     returns-2
+    large-buffer-requires
     slice-aggregate-expand
     expand-requires
     array-share-prefix-buffer
