@@ -2,6 +2,7 @@
 ghost use Rattle.syntax.specs.Answer.{Answers, Refuses};
 
 mod bytes;
+mod classes;
 mod descent;
 mod passes;
 mod table;

@@ -1,3 +1,4 @@
+-- Each answer by the line that was judged last; the laws stand in Judgement.
 use mathlib.Core.Logic.{inl, inr}
 use mathlib.Core.Path.{_≡_, subst}
 use Rattle.syntax.specs.Refusal.{BadLength, TooDeep, line-1}

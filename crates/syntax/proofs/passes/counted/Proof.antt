@@ -1,3 +1,4 @@
+-- A letter seen before, a new one, or a connective.
 use Rattle.syntax.proofs.Size.{letter-seen, letter-new, names-more}
 use borrow.Author.Needs.{needs}
 use Rattle.syntax.proofs.passes.counted.Statement.{statement}

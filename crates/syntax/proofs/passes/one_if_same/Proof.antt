@@ -1,3 +1,4 @@
+-- By the test.
 use borrow.Author.Tests.{eq-eqb, ne-eqb}
 use native.Mathlib.Omega.{arith}
 use Rattle.syntax.proofs.passes.one_if_same.Statement.{statement}

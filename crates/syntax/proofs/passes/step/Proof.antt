@@ -1,3 +1,4 @@
+-- By the tests on the way.
 use borrow.Author.Tests.{eq-eqb, ne-eqb, lt-ltb, le-ltb}
 use borrow.Author.Needs.{needs}
 use Rattle.syntax.proofs.passes.step.Statement.{statement}

@@ -1,3 +1,4 @@
+-- One row more.
 use mathlib.Core.Path.{refl}
 use Rattle.syntax.proofs.Held.{holds-compound}
 use borrow.Author.Needs.{needs}

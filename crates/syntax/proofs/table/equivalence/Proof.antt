@@ -1,3 +1,4 @@
+-- Three compounds, one after the other.
 use mathlib.Core.Path.{_∙_}
 use Rattle.syntax.proofs.Held.{then-equivalence}
 use borrow.Author.Needs.{needs}

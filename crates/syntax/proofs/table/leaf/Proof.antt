@@ -1,3 +1,4 @@
+-- A leaf found again, or a new row.
 use mathlib.Core.Path.{refl}
 use Rattle.syntax.proofs.Held.{holds-found, holds-new}
 use borrow.Author.Needs.{needs}

@@ -1,3 +1,4 @@
+-- ⊥, then the compound.
 use mathlib.Core.Path.{_∙_}
 use Rattle.syntax.proofs.Held.{then-negation}
 use borrow.Author.Needs.{needs}

@@ -1,3 +1,4 @@
+-- By the test for room.
 use borrow.Author.Tests.{lt-ltb, le-ltb}
 use borrow.Author.Needs.{needs}
 use Rattle.syntax.proofs.table.push.Statement.{statement}

@@ -1,3 +1,4 @@
+-- Variant by variant.
 use Rattle.syntax.specs.Nodes.{sameLeaf}
 use borrow.Author.Needs.{needs}
 use Rattle.syntax.proofs.table.same_leaf.Statement.{statement}
