@@ -12,6 +12,7 @@ pub mod Join
 pub mod Beginning
 pub mod Unique
 pub mod Names
+pub mod Stands
 pub mod Judgement
 pub mod Reader
 pub mod Judge

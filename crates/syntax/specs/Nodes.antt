@@ -1,9 +1,10 @@
 -- The parts of a formula as a table (document 01: "Each part of a formula is a letter, ⊥ or a connective with its two parts").
 use mathlib.Core.Bool.{Bool, true, false, cond}
 use mathlib.Core.List.{List, [], _∷_, _++_}
-use Prim.Native.Nat.{ℕ, suc}
+use Prim.Native.Nat.{ℕ, suc, _<_}
 use lib.Dec.{eqb, ltb}
-use lib.ListN.{length}
+use lib.ListN.{length, getD}
+use Rattle.ipl.specs.Formula.{Formula}
 use Rattle.syntax.specs.Grammar as grammar
 use Rattle.syntax.specs.Grammar.{Tree}
 
@@ -79,3 +80,30 @@ named [] = 0
 named (letter l ∷ T) = suc (named T)
 named (falsum ∷ T) = named T
 named (compound c a b ∷ T) = suc (named T)
+
+-- What a table stands for: the formula of each entry, from those of the entries before it.
+unfoldable pub connected : Connective → Formula → Formula → Formula
+connected And p q = Formula.and p q
+connected Or p q = Formula.or p q
+connected Implies p q = Formula.implies p q
+
+unfoldable pub entryFormula : List Formula → Entry → Formula
+entryFormula F (letter l) = Formula.letter l
+entryFormula F falsum = Formula.falsum
+entryFormula F (compound c a b) = connected c (getD F a Formula.falsum) (getD F b Formula.falsum)
+
+unfoldable pub formulasAfter : List Formula → List Entry → List Formula
+formulasAfter F [] = F
+formulasAfter F (e ∷ T) = formulasAfter (F ++ (entryFormula F e ∷ [])) T
+
+unfoldable pub formulaAt : List Entry → ℕ → Formula
+formulaAt T i = getD (formulasAfter [] T) i Formula.falsum
+
+-- The two parts of each compound are earlier entries.
+abbrev pub Earlier : ℕ → Entry → Type 0
+Earlier i (letter l) = Unit {0}
+Earlier i falsum = Unit {0}
+Earlier i (compound c a b) = (a < i) × (b < i)
+
+abbrev pub WellOrdered : List Entry → Type 0
+WellOrdered T = (i : ℕ) → i < length T → Earlier i (getD T i falsum)
