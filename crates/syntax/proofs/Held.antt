@@ -131,15 +131,22 @@ grows T (grammar.or p q) = let a = withTree T p in let b = withTree (a .table) q
 grows T (grammar.implies p q) = let a = withTree T p in let b = withTree (a .table) q in omega (arith, grows T p, grows (a .table) q, compound-grows (b .table) Implies (a .root) (b .root))
 grows T (grammar.equal p q) = let a = withTree T p in let b = withTree (a .table) q in omega (arith, grows T p, grows (a .table) q, equivalence-grows (b .table) (a .root) (b .root))
 
--- A compound over what is held is one over what it stands for.
-pub then-compound : (n : Named) (r : Parsed) (c : Connective) (a m : ℕ) (o : Parsed) → Holds n r → (length (n .table) ≤ room → a ≡ m) → Holds (withCompound (held (r .parts)) c a (r .root)) o → Holds (withCompound (n .table) c m (n .root)) o
-then-compound n r c a m o h e k = record { sound = k .sound; table = λ w. k .table (subst (λ (x : Named). length (x .table) ≤ room) (sym (same w)) w) ∙ ap (λ (x : Named). x .table) (same w); root = λ w. k .root (subst (λ (x : Named). length (x .table) ≤ room) (sym (same w)) w) ∙ ap (λ (x : Named). x .root) (same w) }
-  where
-    fits : length (withCompound (n .table) c m (n .root) .table) ≤ room → length (n .table) ≤ room
-    fits w = omega (arith, compound-grows (n .table) c m (n .root))
+-- What is held of m is held of n, where n has room and is m.
+abbrev pub Fits : Named → Type 0
+Fits n = length (n .table) ≤ room
 
-    same : length (withCompound (n .table) c m (n .root) .table) ≤ room → withCompound (held (r .parts)) c a (r .root) ≡ withCompound (n .table) c m (n .root)
-    same w = rw (h .table (fits w), h .root (fits w), e (fits w))
+pub held-as : (m n : Named) (o : Parsed) → (Fits n → m ≡ n) → Holds m o → Holds n o
+held-as m n o e k = record {
+    sound = k .sound;
+    table = λ w. k .table (subst Fits (sym (e w)) w) ∙ ap (λ (x : Named). x .table) (e w);
+    root = λ w. k .root (subst Fits (sym (e w)) w) ∙ ap (λ (x : Named). x .root) (e w) }
+
+-- A compound over what is held is one over what it stands for.
+then-compound : (n : Named) (r : Parsed) (c : Connective) (a m : ℕ) (o : Parsed) → Holds n r → (Fits n → a ≡ m) → Holds (withCompound (held (r .parts)) c a (r .root)) o → Holds (withCompound (n .table) c m (n .root)) o
+then-compound n r c a m o h e k = held-as (withCompound (held (r .parts)) c a (r .root)) (withCompound (n .table) c m (n .root)) o same k
+  where
+    same : Fits (withCompound (n .table) c m (n .root)) → withCompound (held (r .parts)) c a (r .root) ≡ withCompound (n .table) c m (n .root)
+    same w = let f : Fits n = omega (arith, compound-grows (n .table) c m (n .root)) in rw (h .table f, h .root f, e f)
 
 pub then-negation : (T : List Entry) (a : ℕ) (z o : Parsed) → Holds (withLeaf T falsum) z → Holds (withCompound (held (z .parts)) Implies a (z .root)) o → Holds (withNegation T a) o
 unfolding withNegation

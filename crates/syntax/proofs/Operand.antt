@@ -10,44 +10,39 @@ use Rattle.syntax.specs.Grammar as grammar
 use Rattle.syntax.specs.Grammar.{Tree, Level, negation, conjunction, disjunction, implication, Parses, a-letter, a-falsum, by-not, inside, no-and, by-and, no-or, by-or, no-implies, by-implies, by-equal}
 use Rattle.syntax.specs.Nodes.{Connective, And, Or, Implies, Entry, falsum, Named, withLeaf, withCompound, withEquivalence, withTree}
 use Rattle.syntax.specs.Scan.{State, wanted, had, move}
-use Rattle.syntax.specs.Parts.{held, room, Holds, withNegation}
+use Rattle.syntax.specs.Parts.{held, Holds, withNegation}
 use Rattle.syntax.specs.Descent.{rest, headCode, NextToken, Wanted, Operand, Stops}
 use Rattle.syntax.specs.declared.Parts.{Parts}
 use Rattle.syntax.specs.declared.bytes.Token.{Token}
 use Rattle.syntax.specs.declared.table.Parsed.{Parsed}
 use Rattle.syntax.proofs.Class.{decode, no-blank, after-append}
 use Rattle.syntax.proofs.Position.{head-is, head-letter}
-use Rattle.syntax.proofs.Held.{grows, compound-grows, leaf-grows, equivalence-grows}
+use Rattle.syntax.proofs.Held.{Fits, held-as, grows, compound-grows, leaf-grows, equivalence-grows}
 use Rattle.syntax.proofs.Run.{parse-runs, begins-operand, ends-or-closes}
 
 -- ---- what is held
 
-abbrev Fits : Named → Type 0
-Fits n = length (n .table) ≤ room
-
 -- A step W over the tables that are held is the same step over those that they stand for.
 holds-unary : (n : Named) (r : Parsed) (W : List Entry → ℕ → Named) → ((T : List Entry) (a : ℕ) → length T ≤ length (W T a .table)) → (o : Parsed) → Holds n r → Holds (W (held (r .parts)) (r .root)) o → Holds (W (n .table) (n .root)) o
-holds-unary n r W g o h k = record { sound = k .sound; table = λ w. k .table (subst Fits (sym (same w)) w) ∙ ap (λ (x : Named). x .table) (same w); root = λ w. k .root (subst Fits (sym (same w)) w) ∙ ap (λ (x : Named). x .root) (same w) }
+holds-unary n r W g o h k = held-as (W (held (r .parts)) (r .root)) (W (n .table) (n .root)) o same k
   where
     same : Fits (W (n .table) (n .root)) → W (held (r .parts)) (r .root) ≡ W (n .table) (n .root)
     same w = let f : Fits n = omega (arith, g (n .table) (n .root)) in rw (h .table f, h .root f)
 
 holds-binary : (T : List Entry) (p q : Tree) (l r : Parsed) (W : List Entry → ℕ → ℕ → Named) → ((U : List Entry) (a b : ℕ) → length U ≤ length (W U a b .table)) → (o : Parsed) → Holds (withTree T p) l → Holds (withTree (held (l .parts)) q) r → Holds (W (held (r .parts)) (l .root) (r .root)) o → Holds (W (withTree (withTree T p .table) q .table) (withTree T p .root) (withTree (withTree T p .table) q .root)) o
-holds-binary T p q l r W g o h i k = record { sound = k .sound; table = λ w. k .table (subst Fits (sym (same w)) w) ∙ ap (λ (x : Named). x .table) (same w); root = λ w. k .root (subst Fits (sym (same w)) w) ∙ ap (λ (x : Named). x .root) (same w) }
+holds-binary T p q l r W g o h i k = held-as (W (held (r .parts)) (l .root) (r .root)) (W (b .table) (a .root) (b .root)) o same k
   where
     a : Named
     a = withTree T p
-
     b : Named
     b = withTree (a .table) q
-
     same : Fits (W (b .table) (a .root) (b .root)) → W (held (r .parts)) (l .root) (r .root) ≡ W (b .table) (a .root) (b .root)
     same w =
         let fb : Fits b = omega (arith, g (b .table) (a .root) (b .root)) in
         let fa : Fits a = omega (arith, grows (a .table) q) in
         let e : withTree (held (l .parts)) q ≡ b = ap (λ (U : List Entry). withTree U q) (h .table fa) in
-        let i′ : Holds b r = subst (λ (n : Named). Holds n r) e i in
-        rw (i′ .table fb, i′ .root fb, h .root fa)
+        let held-b : Holds b r = subst (λ (n : Named). Holds n r) e i in
+        rw (held-b .table fb, held-b .root fb, h .root fa)
 
 -- ---- positions
 
