@@ -137,9 +137,10 @@ Fits n = length (n .table) ≤ room
 
 pub held-as : (m n : Named) (o : Parsed) → (Fits n → m ≡ n) → Holds m o → Holds n o
 held-as m n o e k = record {
-    sound = k .sound;
-    table = λ w. k .table (subst Fits (sym (e w)) w) ∙ ap (λ (x : Named). x .table) (e w);
-    root = λ w. k .root (subst Fits (sym (e w)) w) ∙ ap (λ (x : Named). x .root) (e w) }
+  sound = k .sound;
+  table = λ w. k .table (subst Fits (sym (e w)) w) ∙ ap (λ (x : Named). x .table) (e w);
+  root = λ w. k .root (subst Fits (sym (e w)) w) ∙ ap (λ (x : Named). x .root) (e w);
+}
 
 -- A compound over what is held is one over what it stands for.
 then-compound : (n : Named) (r : Parsed) (c : Connective) (a m : ℕ) (o : Parsed) → Holds n r → (Fits n → a ≡ m) → Holds (withCompound (held (r .parts)) c a (r .root)) o → Holds (withCompound (n .table) c m (n .root)) o

@@ -34,8 +34,10 @@ holds-binary T p q l r W g o h i k = held-as (W (held (r .parts)) (l .root) (r .
   where
     a : Named
     a = withTree T p
+
     b : Named
     b = withTree (a .table) q
+
     same : Fits (W (b .table) (a .root) (b .root)) → W (held (r .parts)) (l .root) (r .root) ≡ W (b .table) (a .root) (b .root)
     same w =
         let fb : Fits b = omega (arith, g (b .table) (a .root) (b .root)) in

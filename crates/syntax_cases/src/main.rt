@@ -229,68 +229,48 @@ fn digest(sum: u64, text: &[u8]) -> u64
     }
 }
 
-// Every byte value at one place.
-fn bytes_at(s: &mut [u8], i: usize, sum: u64) -> u64
+// Each byte value from `first` to `last` at one place.
+fn bytes_at(s: &mut [u8], i: usize, first: u8, last: u8, sum: u64) -> u64
     requires { ⌜ (i < length (now s)) × (sum < 1000003) ⌝ }
     ensures { λ r. ⌜ (r < 1000003) × (length (now (s .exit)) ≡ length (now (s .entry))) ⌝ }
 {
     let kept = s[i];
     let mut all = sum;
-    let mut b: u8 = 0;
-    while b < 255 {
+    let mut b = first;
+    while b < last {
         s[i] = b;
         all = digest(all, s);
         b += 1;
     }
-    s[i] = 255;
+    s[i] = last;
     all = digest(all, s);
     s[i] = kept;
     all
 }
 
-fn every_byte(s: &mut [u8]) -> u64
+fn bytes_everywhere(s: &mut [u8], first: u8, last: u8) -> u64
     ensures { λ r. ⌜ r < 1000003 ⌝ }
 {
     let mut all: u64 = 0;
     let mut i: usize = 0;
     while i < s.len() {
-        all = bytes_at(s, i, all);
+        all = bytes_at(s, i, first, last, all);
         i += 1;
     }
     all
 }
 
-// A foreign byte at every place.
-fn foreign_byte(s: &mut [u8]) -> u64
-    ensures { λ r. ⌜ r < 1000003 ⌝ }
-{
-    let mut all: u64 = 0;
-    let mut i: usize = 0;
-    while i < s.len() {
-        let kept = s[i];
-        s[i] = b'!';
-        all = digest(all, s);
-        s[i] = kept;
-        i += 1;
-    }
-    all
-}
-
-fn wrong_bytes() {
+// A long text, with each of some bytes at each of its places.
+fn wrong_bytes(unit: &[u8], times: usize, end: &[u8], first: u8, last: u8) {
     let mut buffer = io::large_buffer();
-    let a = fill(&mut buffer, 0, b"((a>~b)&(c|0) = ~~(d>(e&f)))>", 4);
-    let b = fill(&mut buffer, a, b"g", 1);
-    print(b"every byte at every place: ");
-    print_number(every_byte(&mut buffer[..b]) as usize);
-    print(b"\n");
-}
-
-fn foreign_bytes() {
-    let mut buffer = io::large_buffer();
-    let a = fill(&mut buffer, 0, b"p>", 2047);
-    let b = fill(&mut buffer, a, b"p ", 1);
-    print(b"a foreign byte at every place: ");
-    print_number(foreign_byte(&mut buffer[..b]) as usize);
+    let a = fill(&mut buffer, 0, unit, times);
+    let b = fill(&mut buffer, a, end, 1);
+    print(b"bytes ");
+    print_number(first as usize);
+    print(b" to ");
+    print_number(last as usize);
+    print(b" at every place: ");
+    print_number(bytes_everywhere(&mut buffer[..b], first, last) as usize);
     print(b"\n");
 }
 
@@ -298,6 +278,6 @@ fn main() {
     let mut input = io::buffer();
     let n = io::read_full(STDIN_FILENO, &mut input);
     show_lines(&input[..n]);
-    wrong_bytes();
-    foreign_bytes();
+    wrong_bytes(b"((a>~b)&(c|0) = ~~(d>(e&f)))>", 4, b"g", 0, 255);
+    wrong_bytes(b"p>", 2047, b"p ", b'!', b'!');
 }

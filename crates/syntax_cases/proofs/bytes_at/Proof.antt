@@ -1,16 +1,16 @@
--- Each byte value is put at the place; the length stays.
+-- The length stays.
 use mathlib.Core.Path.{_≡_}
-use Prim.Native.Nat.{_-_, _<_, _≤_}
+use Prim.Native.Nat.{_-_, _<_}
 use lib.ListN.{length}
 use borrow.Author.Needs.{needs}
 use Rattle.syntax_cases.proofs.bytes_at.Statement.{statement}
 use Rattle.syntax_cases.proofs.bytes_at.Tie as tie
 
 abbrev Inv-loop : tie.InvT-loop
-Inv-loop s₀ i sum kept all₀ b₀ s all b = (length s ≡ length s₀) × (all < 1000003) × (b ≤ 255)
+Inv-loop s₀ i first last sum kept all₀ b₀ s all b = (length s ≡ length s₀) × (all < 1000003)
 
 abbrev μ-loop : tie.MeasureT-loop
-μ-loop s₀ i sum kept all₀ b₀ s all b = 255 - b
+μ-loop s₀ i first last sum kept all₀ b₀ s all b = last - b
 
 slice-read-kept : tie.Need-slice-read-kept Inv-loop μ-loop
 slice-read-kept c = search needs

@@ -3,14 +3,14 @@ use mathlib.Core.Path.{_≡_}
 use Prim.Native.Nat.{_-_, _<_}
 use lib.ListN.{length}
 use borrow.Author.Needs.{needs}
-use Rattle.syntax_cases.proofs.every_byte.Statement.{statement}
-use Rattle.syntax_cases.proofs.every_byte.Tie as tie
+use Rattle.syntax_cases.proofs.bytes_everywhere.Statement.{statement}
+use Rattle.syntax_cases.proofs.bytes_everywhere.Tie as tie
 
 abbrev Inv-loop : tie.InvT-loop
-Inv-loop s₀ all₀ i₀ s all i = (all < 1000003) × (length s ≡ length s₀)
+Inv-loop s₀ first last all₀ i₀ s all i = (all < 1000003) × (length s ≡ length s₀)
 
 abbrev μ-loop : tie.MeasureT-loop
-μ-loop s₀ all₀ i₀ s all i = length s₀ - i
+μ-loop s₀ first last all₀ i₀ s all i = length s₀ - i
 
 loop-holds : tie.Need-loop-holds Inv-loop μ-loop
 loop-holds c = search needs
@@ -33,8 +33,8 @@ same-length c = search needs
 returns : tie.Need-returns Inv-loop μ-loop
 returns c = search needs
 
-pub every-byte-spec : {M : Type 1} → statement M
-every-byte-spec =
+pub bytes-everywhere-spec : {M : Type 1} → statement M
+bytes-everywhere-spec =
     tie.close
     (tie.spec
     Inv-loop
