@@ -36,7 +36,7 @@ module _ (s : List ℕ) where
   start-asks w p e = record { wanted = start-wanted w; sound = e .sound }
 
   pub answer-refused : (n place : ℕ) (r : Reading) → Refused s n place → Refuses n place r → Answers s r
-  answer-refused n place r x k = subst (λ (o : Outcome). AnswersWith s o (r .parts)) (sym (k .outcome-is)) (x, k .none)
+  answer-refused n place r x k = subst (λ (o : Outcome). AnswersWith s o (r .parts)) (sym (k .outcome-is)) (x, k .empty)
 
   -- Line 1.
   pub length-right : (length s ≡ 0 → ⊥) → length s ≤ 4096 → BadLength s → ⊥
@@ -76,6 +76,7 @@ module _ (s : List ℕ) where
             let fits : length (withTree (held p) (g .operand .tree) .table) ≤ 65 = subst (λ (x : Named). length (x .table) ≤ 65) (sym none) (has-room (g .operand .tree) (omega arith)) in
             record {
               tree = g .operand .tree;
+              sound = g .operand .holds .sound;
               accepted = record { length-right = l; depth-right = f; reads = reads; size-right = λ z. omega arith };
               table-is = g .operand .holds .table fits ∙ ap (λ (x : Named). x .table) none;
               root-is = g .operand .holds .root fits ∙ ap (λ (x : Named). x .root) none;

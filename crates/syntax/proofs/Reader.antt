@@ -62,7 +62,7 @@ module _ (s : List ℕ) where
   place-same (line-4 l d r h) (line-4 x y z q) = refl
 
   outcomes : (o : Outcome) (p : Parts) (o′ : Outcome) (p′ : Parts) → AnswersWith s o p → AnswersWith s o′ p′ → (o ≡ o′) × (held p ≡ held p′)
-  outcomes (Refusal n j) p (Refusal m k) p′ (a, e) (b, f) = (refusals (same-number a b) a b, e ∙ sym f)
+  outcomes (Refusal n j) p (Refusal m k) p′ (a, e) (b, f) = (refusals (same-number a b) a b, e .none ∙ sym (f .none))
     where
       same-number : Refused s n j → Refused s m k → n ≡ m
       same-number x y = omega (arith, none-before x (only-then y), none-before y (only-then x))
