@@ -1,0 +1,75 @@
+-- Refusal 2, beginning by beginning.
+use mathlib.Core.Bool.{cond}
+use mathlib.Core.List.{List, [], _∷_, _++_}
+use mathlib.Core.Path.{_≡_, refl, sym, _∙_, subst}
+use Prim.Native.Nat.{ℕ, suc, _+_, _≤_, _<_}
+use native.Mathlib.Decide.{decLt}
+use native.Mathlib.Numerals.{add-one}
+use native.Mathlib.Omega.{arith}
+use lib.Dec.{eqb}
+use lib.ListN.{length, getD, take}
+use lib.Seq.{take-suc, take-all}
+use Rattle.atoms.proofs.Truth.{by-cond}
+use Rattle.syntax.specs.Refusal.{count, TooDeepAt, TooDeep}
+
+count-snoc : (x : ℕ) (u : List ℕ) (b : ℕ) → count x (u ++ (b ∷ [])) ≡ count x u + cond (eqb b x) 1 0
+unfolding count
+count-snoc x [] b = by-cond (λ (n : ℕ). cond (eqb b x) 1 0 ≡ 0 + n) (eqb b x) 1 0 (λ e. rw e) (λ e. rw e)
+count-snoc x (a ∷ u) b =
+    let ih = count-snoc x u b in
+    by-cond (λ (n : ℕ). cond (eqb a x) (suc (count x (u ++ (b ∷ [])))) (count x (u ++ (b ∷ []))) ≡ n + cond (eqb b x) 1 0) (eqb a x) (suc (count x u)) (count x u)
+    (λ e. rw e (omega arith)) (λ e. rw e (omega arith))
+
+-- The counts of the first i bytes; none of those beginnings is too deep.
+pub record Shallow (s : List ℕ) (opened closed i : ℕ) : Type 0 where
+  pub inside : i ≤ length s
+  pub opened-is : opened ≡ count 40 (take i s)
+  pub closed-is : closed ≡ count 41 (take i s)
+  pub opened-small : opened ≤ i
+  pub closed-small : closed ≤ i
+  pub none : (k : ℕ) → k ≤ i → TooDeepAt s k → ⊥
+
+module _ (s : List ℕ) where
+  pub shallow-start : Shallow s 0 0 0
+  unfolding count
+  shallow-start = record {
+    inside = omega arith;
+    opened-is = refl;
+    closed-is = refl;
+    opened-small = omega arith;
+    closed-small = omega arith;
+    none = λ k h t. let e : k ≡ 0 = omega arith in absurd (shallow-none (subst (λ (j : ℕ). TooDeepAt s j) e t));
+  }
+    where
+      shallow-none : TooDeepAt s 0 → ⊥
+      shallow-none t = omega arith
+
+  module _ (opened closed i : ℕ) (h : Shallow s opened closed i) (w : i < length s) where
+    counts : (x : ℕ) → count x (take (i + 1) s) ≡ count x (take i s) + cond (eqb (getD s i 0) x) 1 0
+    counts x = rw (add-one, take-suc s i 0) (count-snoc x (take i s) (getD s i 0))
+
+    module _ (a b : ℕ) (ea : a ≡ cond (eqb (getD s i 0) 40) 1 0) (eb : b ≡ cond (eqb (getD s i 0) 41) 1 0) (ha : a ≤ 1) (hb : b ≤ 1) where
+      pub found-deep : 64 + (closed + b) < opened + a → TooDeep s
+      found-deep d = (i + 1, omega (arith, counts 40, counts 41, h .opened-is, h .closed-is, ea, eb))
+
+      pub shallow-next : (64 + (closed + b) < opened + a → ⊥) → Shallow s (opened + a) (closed + b) (i + 1)
+      shallow-next n = record {
+        inside = omega arith;
+        opened-is = omega (arith, counts 40, h .opened-is, ea);
+        closed-is = omega (arith, counts 41, h .closed-is, eb);
+        opened-small = omega (arith, h .opened-small);
+        closed-small = omega (arith, h .closed-small);
+        none = λ k l t. elim (decLt k (i + 1)) [
+          | yes e ↦ h .none k (omega arith) t
+          | no e ↦ let q : k ≡ i + 1 = omega arith in n (last (subst (λ (j : ℕ). TooDeepAt s j) q t))
+        ];
+      }
+        where
+          last : TooDeepAt s (i + 1) → 64 + (closed + b) < opened + a
+          last t = omega (arith, counts 40, counts 41, h .opened-is, h .closed-is, ea, eb)
+
+  pub shallow-all : (opened closed i : ℕ) → Shallow s opened closed i → length s ≤ i → TooDeep s → ⊥
+  shallow-all opened closed i h l (k, t) = elim (decLt k i) [
+    | yes e ↦ h .none k (omega arith) t
+    | no e ↦ h .none i (omega arith) (let q : take k s ≡ take i s = take-all k s (omega (arith, h .inside)) ∙ sym (take-all i s l) in subst (λ (u : List ℕ). 64 + count 41 u < count 40 u) q t)
+  ]

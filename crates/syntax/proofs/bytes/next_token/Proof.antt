@@ -1,0 +1,60 @@
+-- The tokens from `i` on are those from `at` on, until the first byte that is no space.
+use Rattle.syntax.proofs.Position.{token-found, token-none}
+use mathlib.Core.Path.{_≡_, refl, sym, _∙_}
+use Prim.Native.Nat.{_≤_, _-_}
+use lib.ListN.{length}
+use Rattle.syntax.specs.Descent.{rest}
+use Rattle.syntax.proofs.Class.{rest-blank}
+use borrow.Author.Needs.{needs}
+use native.Mathlib.Omega.{arith}
+use Rattle.syntax.proofs.bytes.next_token.Statement.{statement}
+use Rattle.syntax.proofs.bytes.next_token.Tie as tie
+
+abbrev Inv-loop : tie.InvT-loop
+Inv-loop s at i₀ i = (at ≤ i) × (i ≤ length s) × (rest s i ≡ rest s at)
+
+abbrev μ-loop : tie.MeasureT-loop
+μ-loop s at i₀ i = length s - i
+
+loop-holds : tie.Need-loop-holds Inv-loop μ-loop
+loop-holds c = (omega arith, c .before .pre, refl)
+
+shared-slice-read-class-of : tie.Need-shared-slice-read-class-of Inv-loop μ-loop
+shared-slice-read-class-of c = search needs
+
+class-of-requires : tie.Need-class-of-requires Inv-loop μ-loop
+class-of-requires c κs = search needs
+
+add-t9 : tie.Need-add-t9 Inv-loop μ-loop
+add-t9 c = search needs
+
+returns : tie.Need-returns Inv-loop μ-loop
+returns c = token-found _ _ _ (c .before .before .before .before .loop .inv .0) (c .before .before .before .before .loop .inv .2) _ (c .before .before .before .loop-test .taken) (c .before .class-of .ensures) (c .if1 .taken)
+
+add-i : tie.Need-add-i Inv-loop μ-loop
+add-i c = search needs
+
+loop-less : tie.Need-loop-less Inv-loop μ-loop
+loop-less c = search needs
+
+loop-again : tie.Need-loop-again Inv-loop μ-loop
+loop-again c = (omega arith, omega arith, sym (rest-blank _ _ (c .before .before .before .loop-test .taken) (sym (c .before .class-of .ensures) ∙ c .if1 .left)) ∙ c .before .before .before .before .loop .inv .2)
+
+returns-2 : tie.Need-returns-2 Inv-loop μ-loop
+returns-2 c = token-none _ _ _ (c .before .loop .inv .0) (c .before .loop .inv .2) (c .before .loop .inv .1) (c .loop-test .left)
+
+pub next-token-spec : {M : Type 1} → statement M
+next-token-spec =
+    tie.close
+    (tie.spec
+    Inv-loop
+    μ-loop
+    loop-holds
+    shared-slice-read-class-of
+    class-of-requires
+    add-t9
+    returns
+    add-i
+    loop-less
+    loop-again
+    returns-2)

@@ -1,0 +1,298 @@
+-- The cycle of calls of the reader functions: the bytes left fall. Each answer cites a law of Operand.
+use mathlib.Core.Path.{_≡_, refl, _∙_}
+use Prim.Native.Nat.{ℕ, _+_, _-_, _*_, _<_}
+use lib.ListN.{length}
+use borrow.Fn.Kinds.{In}
+use borrow.Fn.PlainCycle.{Measures, is, falls, and}
+use native.Mathlib.Omega.{arith}
+use Rattle.syntax.specs.Scan.{move}
+use Rattle.syntax.specs.Grammar.{Level}
+use Rattle.syntax.specs.Descent.{rest, headCode, Operand}
+use Rattle.syntax.specs.declared.Parts.{Parts}
+use Rattle.syntax.proofs.Position.{token-forward}
+use Rattle.syntax.proofs.Operand.{wanted-after, wanted-not, wanted-inside, operand-class, joined-and, joined-or, joined-implies, joined-equal, single-and, single-or, single-implies, negated, parenthesized, falsum-read, letter-read}
+use Rattle.syntax.proofs.descent.conjunction.Reads as conjunction
+use Rattle.syntax.proofs.descent.conjunction.Kinds as conjunction-kinds
+use Rattle.syntax.proofs.descent.+conjunction+disjunction+implication+negation.Lts-conjunction as conjunction-lts
+use Rattle.syntax.proofs.descent.disjunction.Reads as disjunction
+use Rattle.syntax.proofs.descent.disjunction.Kinds as disjunction-kinds
+use Rattle.syntax.proofs.descent.+conjunction+disjunction+implication+negation.Lts-disjunction as disjunction-lts
+use Rattle.syntax.proofs.descent.implication.Reads as implication
+use Rattle.syntax.proofs.descent.implication.Kinds as implication-kinds
+use Rattle.syntax.proofs.descent.+conjunction+disjunction+implication+negation.Lts-implication as implication-lts
+use Rattle.syntax.proofs.descent.negation.Reads as negation
+use Rattle.syntax.proofs.descent.negation.Kinds as negation-kinds
+use Rattle.syntax.proofs.descent.+conjunction+disjunction+implication+negation.Lts-negation as negation-lts
+use Rattle.syntax.proofs.bytes.next_token.Reads as next-token-reads
+use Rattle.syntax.proofs.table.compound.Reads as compound-reads
+use Rattle.syntax.proofs.table.equivalence.Reads as equivalence-reads
+use Rattle.syntax.proofs.table.leaf.Reads as leaf-reads
+use Rattle.syntax.proofs.table.negation.Reads as negation-reads
+use Rattle.syntax.proofs.descent.+conjunction+disjunction+implication+negation.{statement}
+use Rattle.syntax.proofs.descent.+conjunction+disjunction+implication+negation.Tie.{close}
+
+abbrev μ-conjunction : Measures 1 conjunction-kinds.ps ℕ
+μ-conjunction κs a = 4 * (length (a .0 .now) - a .1 .0) + 2
+
+abbrev μ-disjunction : Measures 1 disjunction-kinds.ps ℕ
+μ-disjunction κs a = 4 * (length (a .0 .now) - a .1 .0) + 3
+
+abbrev μ-implication : Measures 1 implication-kinds.ps ℕ
+μ-implication κs a = 4 * (length (a .0 .now) - a .1 .0) + 4
+
+abbrev μ-negation : Measures 1 negation-kinds.ps ℕ
+μ-negation κs a = 4 * (length (a .0 .now) - a .1 .0) + 1
+
+abbrev conjunction-at : ℕ → In 1 conjunction-kinds.ps
+conjunction-at t =
+    and 1 conjunction-kinds.ps (is 1 conjunction-kinds.ps μ-conjunction t) conjunction.Pre
+
+abbrev conjunction-below : ℕ → In 1 conjunction-kinds.ps
+conjunction-below t =
+    and 1 conjunction-kinds.ps (falls 1 conjunction-kinds.ps _<_ μ-conjunction t) conjunction.Pre
+
+abbrev disjunction-at : ℕ → In 1 disjunction-kinds.ps
+disjunction-at t =
+    and 1 disjunction-kinds.ps (is 1 disjunction-kinds.ps μ-disjunction t) disjunction.Pre
+
+abbrev disjunction-below : ℕ → In 1 disjunction-kinds.ps
+disjunction-below t =
+    and 1 disjunction-kinds.ps (falls 1 disjunction-kinds.ps _<_ μ-disjunction t) disjunction.Pre
+
+abbrev implication-at : ℕ → In 1 implication-kinds.ps
+implication-at t =
+    and 1 implication-kinds.ps (is 1 implication-kinds.ps μ-implication t) implication.Pre
+
+abbrev implication-below : ℕ → In 1 implication-kinds.ps
+implication-below t =
+    and 1 implication-kinds.ps (falls 1 implication-kinds.ps _<_ μ-implication t) implication.Pre
+
+abbrev negation-at : ℕ → In 1 negation-kinds.ps
+negation-at t = and 1 negation-kinds.ps (is 1 negation-kinds.ps μ-negation t) negation.Pre
+
+abbrev negation-below : ℕ → In 1 negation-kinds.ps
+negation-below t =
+    and 1 negation-kinds.ps (falls 1 negation-kinds.ps _<_ μ-negation t) negation.Pre
+
+abbrev conjunction-claims : ℕ → conjunction-lts.Claims
+conjunction-claims t = (negation-below t, negation.Post, next-token-reads.Asked, next-token-reads.Learnt, compound-reads.Asked, compound-reads.Learnt)
+
+abbrev disjunction-claims : ℕ → disjunction-lts.Claims
+disjunction-claims t = (conjunction-below t, conjunction.Post, next-token-reads.Asked, next-token-reads.Learnt, compound-reads.Asked, compound-reads.Learnt)
+
+abbrev implication-claims : ℕ → implication-lts.Claims
+implication-claims t = (disjunction-below t, disjunction.Post, next-token-reads.Asked, next-token-reads.Learnt, implication-below t, implication.Post, compound-reads.Asked, compound-reads.Learnt, equivalence-reads.Asked, equivalence-reads.Learnt)
+
+abbrev negation-claims : ℕ → negation-lts.Claims
+negation-claims t = (next-token-reads.Asked, next-token-reads.Learnt, negation-below t, negation.Post, negation-reads.Asked, negation-reads.Learnt, implication-below t, implication.Post, leaf-reads.Asked, leaf-reads.Learnt)
+
+abbrev conjunction-Inv-loop : conjunction-lts.InvT-loop
+conjunction-Inv-loop s at left₀ left = (p : Parts) → Operand Level.negation s at p left₀ → Operand Level.conjunction s at p left
+
+abbrev conjunction-μ-loop : conjunction-lts.MeasureT-loop
+conjunction-μ-loop s at left₀ left = length s - left .next
+
+conjunction-negation-requires : (t : ℕ) → conjunction-lts.Need-negation-requires (conjunction-claims t) (conjunction-at t) conjunction.Post conjunction-Inv-loop conjunction-μ-loop
+conjunction-negation-requires t c κs = (omega (arith, c .before .pre .0), c .before .pre .1)
+
+conjunction-loop-holds : (t : ℕ) → conjunction-lts.Need-loop-holds (conjunction-claims t) (conjunction-at t) conjunction.Post conjunction-Inv-loop conjunction-μ-loop
+conjunction-loop-holds t c = λ p o. single-and _ _ p _ o
+
+conjunction-next-token-requires : (t : ℕ) → conjunction-lts.Need-next-token-requires (conjunction-claims t) (conjunction-at t) conjunction.Post conjunction-Inv-loop conjunction-μ-loop
+conjunction-next-token-requires t c κs = c .loop .inv _ (c .before .negation .ensures .operand) .inside
+
+conjunction-returns : (t : ℕ) → conjunction-lts.Need-returns (conjunction-claims t) (conjunction-at t) conjunction.Post conjunction-Inv-loop conjunction-μ-loop
+conjunction-returns t c = let l = c .before .before .before in
+    record { operand = l .loop .inv _ (l .before .negation .ensures .operand); stops = λ e. c .if1 .taken (c .before .before .next-token .ensures .class-is ∙ e) }
+
+conjunction-negation-requires-2 : (t : ℕ) → conjunction-lts.Need-negation-requires-2 (conjunction-claims t) (conjunction-at t) conjunction.Post conjunction-Inv-loop conjunction-μ-loop
+unfolding move
+conjunction-negation-requires-2 t c κs = let l = c .before .before .before in
+    let x = l .loop .inv _ (l .before .negation .ensures .operand) in
+    let k = c .before .before .next-token .ensures in
+    let pre = l .before .before .before .pre in
+    (omega (arith, x .forward, token-forward _ _ _ k 2 (c .if1 .left) (omega arith), k .inside, pre .0), record { wanted = wanted-after _ _ (pre .1 .wanted) x _ k 2 (λ d. refl) (omega arith) (c .if1 .left); sound = x .holds .sound })
+
+conjunction-compound-requires : (t : ℕ) → conjunction-lts.Need-compound-requires (conjunction-claims t) (conjunction-at t) conjunction.Post conjunction-Inv-loop conjunction-μ-loop
+conjunction-compound-requires t c κs = c .negation2 .ensures .operand .holds .sound
+
+conjunction-loop-less : (t : ℕ) → conjunction-lts.Need-loop-less (conjunction-claims t) (conjunction-at t) conjunction.Post conjunction-Inv-loop conjunction-μ-loop
+conjunction-loop-less t c = let y = c .before .negation2 .ensures .operand in
+    omega (arith, c .compound .ensures .0, y .forward, y .inside, token-forward _ _ _ (c .before .before .before .before .next-token .ensures) 2 (c .before .before .if1 .left) (omega arith))
+
+conjunction-loop-again : (t : ℕ) → conjunction-lts.Need-loop-again (conjunction-claims t) (conjunction-at t) conjunction.Post conjunction-Inv-loop conjunction-μ-loop
+conjunction-loop-again t c = λ p o. joined-and _ _ p _ _ _ _ (c .before .before .before .before .before .loop .inv p o) (c .before .before .before .before .next-token .ensures) (c .before .before .if1 .left) (c .before .negation2 .ensures .operand) (c .compound .ensures .0) (c .compound .ensures .1)
+
+abbrev disjunction-Inv-loop : disjunction-lts.InvT-loop
+disjunction-Inv-loop s at left₀ left = ((p : Parts) → Operand Level.conjunction s at p left₀ → Operand Level.disjunction s at p left) × (headCode (rest s (left .next)) ≡ 2 → ⊥)
+
+abbrev disjunction-μ-loop : disjunction-lts.MeasureT-loop
+disjunction-μ-loop s at left₀ left = length s - left .next
+
+disjunction-conjunction-requires : (t : ℕ) → disjunction-lts.Need-conjunction-requires (disjunction-claims t) (disjunction-at t) disjunction.Post disjunction-Inv-loop disjunction-μ-loop
+disjunction-conjunction-requires t c κs = (omega (arith, c .before .pre .0), c .before .pre .1)
+
+disjunction-loop-holds : (t : ℕ) → disjunction-lts.Need-loop-holds (disjunction-claims t) (disjunction-at t) disjunction.Post disjunction-Inv-loop disjunction-μ-loop
+disjunction-loop-holds t c = (λ p o. single-or _ _ p _ o, c .conjunction .ensures .stops)
+
+disjunction-next-token-requires : (t : ℕ) → disjunction-lts.Need-next-token-requires (disjunction-claims t) (disjunction-at t) disjunction.Post disjunction-Inv-loop disjunction-μ-loop
+disjunction-next-token-requires t c κs = c .loop .inv .0 _ (c .before .conjunction .ensures .operand) .inside
+
+disjunction-returns : (t : ℕ) → disjunction-lts.Need-returns (disjunction-claims t) (disjunction-at t) disjunction.Post disjunction-Inv-loop disjunction-μ-loop
+disjunction-returns t c = let l = c .before .before .before in
+    record { operand = l .loop .inv .0 _ (l .before .conjunction .ensures .operand); stops = (l .loop .inv .1, λ e. c .if1 .taken (c .before .before .next-token .ensures .class-is ∙ e)) }
+
+disjunction-conjunction-requires-2 : (t : ℕ) → disjunction-lts.Need-conjunction-requires-2 (disjunction-claims t) (disjunction-at t) disjunction.Post disjunction-Inv-loop disjunction-μ-loop
+unfolding move
+disjunction-conjunction-requires-2 t c κs = let l = c .before .before .before in
+    let x = l .loop .inv .0 _ (l .before .conjunction .ensures .operand) in
+    let k = c .before .before .next-token .ensures in
+    let pre = l .before .before .before .pre in
+    (omega (arith, x .forward, token-forward _ _ _ k 3 (c .if1 .left) (omega arith), k .inside, pre .0), record { wanted = wanted-after _ _ (pre .1 .wanted) x _ k 3 (λ d. refl) (omega arith) (c .if1 .left); sound = x .holds .sound })
+
+disjunction-compound-requires : (t : ℕ) → disjunction-lts.Need-compound-requires (disjunction-claims t) (disjunction-at t) disjunction.Post disjunction-Inv-loop disjunction-μ-loop
+disjunction-compound-requires t c κs = c .conjunction2 .ensures .operand .holds .sound
+
+disjunction-loop-less : (t : ℕ) → disjunction-lts.Need-loop-less (disjunction-claims t) (disjunction-at t) disjunction.Post disjunction-Inv-loop disjunction-μ-loop
+disjunction-loop-less t c = let y = c .before .conjunction2 .ensures .operand in
+    omega (arith, c .compound .ensures .0, y .forward, y .inside, token-forward _ _ _ (c .before .before .before .before .next-token .ensures) 3 (c .before .before .if1 .left) (omega arith))
+
+disjunction-loop-again : (t : ℕ) → disjunction-lts.Need-loop-again (disjunction-claims t) (disjunction-at t) disjunction.Post disjunction-Inv-loop disjunction-μ-loop
+disjunction-loop-again t c = (λ p o. joined-or _ _ p _ _ _ _ (c .before .before .before .before .before .loop .inv .0 p o) (c .before .before .before .before .next-token .ensures) (c .before .before .if1 .left) (c .before .conjunction2 .ensures .operand) (c .compound .ensures .0) (c .compound .ensures .1), rw (c .compound .ensures .0) (c .before .conjunction2 .ensures .stops))
+
+implication-disjunction-requires : (t : ℕ) → implication-lts.Need-disjunction-requires (implication-claims t) (implication-at t) implication.Post
+implication-disjunction-requires t c κs = (omega (arith, c .before .pre .0), c .before .pre .1)
+
+implication-next-token-requires : (t : ℕ) → implication-lts.Need-next-token-requires (implication-claims t) (implication-at t) implication.Post
+implication-next-token-requires t c κs = c .disjunction .ensures .operand .inside
+
+implication-implication-requires : (t : ℕ) → implication-lts.Need-implication-requires (implication-claims t) (implication-at t) implication.Post
+unfolding move
+implication-implication-requires t c κs = let x = c .before .before .before .disjunction .ensures .operand in
+    let k = c .before .before .next-token .ensures in
+    let pre = c .before .before .before .before .before .pre in
+    (omega (arith, x .forward, token-forward _ _ _ k 4 (c .if1 .taken) (omega arith), k .inside, pre .0), record { wanted = wanted-after _ _ (pre .1 .wanted) x _ k 4 (λ d. refl) (omega arith) (c .if1 .taken); sound = x .holds .sound })
+
+implication-compound-requires : (t : ℕ) → implication-lts.Need-compound-requires (implication-claims t) (implication-at t) implication.Post
+implication-compound-requires t c κs = c .implication .ensures .operand .holds .sound
+
+implication-returns : (t : ℕ) → implication-lts.Need-returns (implication-claims t) (implication-at t) implication.Post
+implication-returns t c = let y = c .before .implication .ensures in
+    record { operand = joined-implies _ _ _ _ _ _ _ (c .before .before .before .before .before .disjunction .ensures .operand) (c .before .before .before .before .next-token .ensures) (c .before .before .if1 .taken) (y .operand) (c .compound .ensures .0) (c .compound .ensures .1); stops = rw (c .compound .ensures .0) (y .stops) }
+
+implication-implication-requires-2 : (t : ℕ) → implication-lts.Need-implication-requires-2 (implication-claims t) (implication-at t) implication.Post
+unfolding move
+implication-implication-requires-2 t c κs = let x = c .before .before .before .before .before .disjunction .ensures .operand in
+    let k = c .before .before .before .before .next-token .ensures in
+    let pre = c .before .before .before .before .before .before .before .pre in
+    (omega (arith, x .forward, token-forward _ _ _ k 5 (c .if2 .taken) (omega arith), k .inside, pre .0), record { wanted = wanted-after _ _ (pre .1 .wanted) x _ k 5 (λ d. refl) (omega arith) (c .if2 .taken); sound = x .holds .sound })
+
+implication-equivalence-requires : (t : ℕ) → implication-lts.Need-equivalence-requires (implication-claims t) (implication-at t) implication.Post
+implication-equivalence-requires t c κs = c .implication2 .ensures .operand .holds .sound
+
+implication-returns-2 : (t : ℕ) → implication-lts.Need-returns-2 (implication-claims t) (implication-at t) implication.Post
+implication-returns-2 t c = let y = c .before .implication2 .ensures in
+    record { operand = joined-equal _ _ _ _ _ _ _ (c .before .before .before .before .before .before .before .disjunction .ensures .operand) (c .before .before .before .before .before .before .next-token .ensures) (c .before .before .if2 .taken) (y .operand) (c .equivalence .ensures .0) (c .equivalence .ensures .1); stops = rw (c .equivalence .ensures .0) (y .stops) }
+
+implication-returns-3 : (t : ℕ) → implication-lts.Need-returns-3 (implication-claims t) (implication-at t) implication.Post
+implication-returns-3 t c = let x = c .before .before .before .before .before .disjunction .ensures in
+    let k = c .before .before .before .before .next-token .ensures in
+    record { operand = single-implies _ _ _ _ (x .operand); stops = (x .stops .0, x .stops .1, λ e. c .before .before .if1 .left (k .class-is ∙ e), λ e. c .if2 .left (k .class-is ∙ e)) }
+
+negation-next-token-requires : (t : ℕ) → negation-lts.Need-next-token-requires (negation-claims t) (negation-at t) negation.Post
+negation-next-token-requires t c κs = c .before .pre .1 .wanted .inside
+
+negation-negation-requires : (t : ℕ) → negation-lts.Need-negation-requires (negation-claims t) (negation-at t) negation.Post
+negation-negation-requires t c κs = let k = c .before .before .next-token .ensures in
+    let pre = c .before .before .before .before .pre in
+    (omega (arith, token-forward _ _ _ k 7 (c .if1 .taken) (omega arith), k .inside, pre .0), record { wanted = wanted-not _ _ _ k (pre .1 .wanted) (c .if1 .taken); sound = pre .1 .sound })
+
+negation-negation-requires-2 : (t : ℕ) → negation-lts.Need-negation-requires-2 (negation-claims t) (negation-at t) negation.Post
+negation-negation-requires-2 t c κs = c .negation .ensures .operand .holds .sound
+
+negation-returns : (t : ℕ) → negation-lts.Need-returns (negation-claims t) (negation-at t) negation.Post
+negation-returns t c = record { operand = negated _ _ _ _ (c .before .before .before .before .next-token .ensures) _ _ (c .before .before .if1 .taken) (c .before .negation .ensures .operand) (c .negation2 .ensures .0) (c .negation2 .ensures .1); stops = tt }
+
+negation-implication-requires : (t : ℕ) → negation-lts.Need-implication-requires (negation-claims t) (negation-at t) negation.Post
+negation-implication-requires t c κs = let k = c .before .before .before .before .next-token .ensures in
+    let pre = c .before .before .before .before .before .before .pre in
+    (omega (arith, token-forward _ _ _ k 8 (c .if2 .taken) (omega arith), k .inside, pre .0), record { wanted = wanted-inside _ _ _ k (pre .1 .wanted) (c .if2 .taken); sound = pre .1 .sound })
+
+negation-next-token-requires-2 : (t : ℕ) → negation-lts.Need-next-token-requires-2 (negation-claims t) (negation-at t) negation.Post
+negation-next-token-requires-2 t c κs = c .implication .ensures .operand .inside
+
+negation-returns-2 : (t : ℕ) → negation-lts.Need-returns-2 (negation-claims t) (negation-at t) negation.Post
+negation-returns-2 t c = let y = c .before .before .implication .ensures in
+    record { operand = parenthesized _ _ _ _ (c .before .before .before .before .before .before .before .next-token .ensures) _ _ (c .before .before .before .before .before .before .before .before .before .pre .1 .wanted) (c .before .before .before .if2 .taken) (y .operand) (y .stops) (c .before .next-token2 .ensures); stops = tt }
+
+negation-leaf-requires : (t : ℕ) → negation-lts.Need-leaf-requires (negation-claims t) (negation-at t) negation.Post
+negation-leaf-requires t c κs = c .before .before .before .before .before .before .before .before .pre .1 .sound
+
+negation-returns-3 : (t : ℕ) → negation-lts.Need-returns-3 (negation-claims t) (negation-at t) negation.Post
+negation-returns-3 t c = record { operand = falsum-read _ _ _ _ (c .before .before .before .before .before .before .before .next-token .ensures) _ (c .before .if3 .taken) (c .leaf .ensures .0) (c .leaf .ensures .1); stops = tt }
+
+negation-sub-t11 : (t : ℕ) → negation-lts.Need-sub-t11 (negation-claims t) (negation-at t) negation.Post
+negation-sub-t11 t c = omega (arith, operand-class _ _ _ (c .before .before .before .before .before .before .before .next-token .ensures) (c .before .before .before .before .before .before .before .before .before .pre .1 .wanted))
+
+negation-leaf-requires-2 : (t : ℕ) → negation-lts.Need-leaf-requires-2 (negation-claims t) (negation-at t) negation.Post
+negation-leaf-requires-2 t c κs = c .before .before .before .before .before .before .before .before .before .pre .1 .sound
+
+negation-returns-4 : (t : ℕ) → negation-lts.Need-returns-4 (negation-claims t) (negation-at t) negation.Post
+negation-returns-4 t c = let k = c .before .before .before .before .before .before .before .before .next-token .ensures in
+    record { operand = letter-read _ _ _ _ k _ (omega (arith, operand-class _ _ _ k (c .before .before .before .before .before .before .before .before .before .before .pre .1 .wanted))) (c .leaf2 .ensures .0) (c .leaf2 .ensures .1); stops = tt }
+
+pub +conjunction+disjunction+implication+negation-spec : {M : Type 1} → statement M
++conjunction+disjunction+implication+negation-spec =
+    close μ-conjunction μ-disjunction μ-implication μ-negation (λ t. conjunction-lts.spec (conjunction-claims t)
+    (conjunction-at t)
+    conjunction.Post
+    conjunction-Inv-loop
+    conjunction-μ-loop
+    (conjunction-negation-requires t)
+    (conjunction-loop-holds t)
+    (conjunction-next-token-requires t)
+    (conjunction-returns t)
+    (conjunction-negation-requires-2 t)
+    (conjunction-compound-requires t)
+    (conjunction-loop-less t)
+    (conjunction-loop-again t))
+    (λ t. disjunction-lts.spec (disjunction-claims t)
+    (disjunction-at t)
+    disjunction.Post
+    disjunction-Inv-loop
+    disjunction-μ-loop
+    (disjunction-conjunction-requires t)
+    (disjunction-loop-holds t)
+    (disjunction-next-token-requires t)
+    (disjunction-returns t)
+    (disjunction-conjunction-requires-2 t)
+    (disjunction-compound-requires t)
+    (disjunction-loop-less t)
+    (disjunction-loop-again t))
+    (λ t. implication-lts.spec (implication-claims t)
+    (implication-at t)
+    implication.Post
+    (implication-disjunction-requires t)
+    (implication-next-token-requires t)
+    (implication-implication-requires t)
+    (implication-compound-requires t)
+    (implication-returns t)
+    (implication-implication-requires-2 t)
+    (implication-equivalence-requires t)
+    (implication-returns-2 t)
+    (implication-returns-3 t))
+    λ t. negation-lts.spec (negation-claims t)
+    (negation-at t)
+    negation.Post
+    (negation-next-token-requires t)
+    (negation-negation-requires t)
+    (negation-negation-requires-2 t)
+    (negation-returns t)
+    (negation-implication-requires t)
+    (negation-next-token-requires-2 t)
+    (negation-returns-2 t)
+    (negation-leaf-requires t)
+    (negation-returns-3 t)
+    (negation-sub-t11 t)
+    (negation-leaf-requires-2 t)
+    (negation-returns-4 t)

@@ -1,0 +1,74 @@
+-- The scan up to `i` fits.
+use mathlib.Core.Path.{sym, _∙_}
+use Rattle.syntax.proofs.Fault.{scan-start, scan-next, scan-misfit, scan-wanting, scan-open, scan-whole}
+use Prim.Native.Nat.{_-_}
+use lib.ListN.{length}
+use Rattle.syntax.proofs.Fault.{ScannedTo}
+use borrow.Author.Needs.{needs}
+use Rattle.syntax.proofs.passes.find_fault.Statement.{statement}
+use Rattle.syntax.proofs.passes.find_fault.Tie as tie
+
+abbrev Inv-loop : tie.InvT-loop
+Inv-loop s operand₀ depth₀ i₀ operand depth i = ScannedTo s operand depth i
+
+abbrev μ-loop : tie.MeasureT-loop
+μ-loop s operand₀ depth₀ i₀ operand depth i = length s - i
+
+loop-holds : tie.Need-loop-holds Inv-loop μ-loop
+loop-holds c = scan-start _
+
+shared-slice-read-class-of : tie.Need-shared-slice-read-class-of Inv-loop μ-loop
+shared-slice-read-class-of c = search needs
+
+class-of-requires : tie.Need-class-of-requires Inv-loop μ-loop
+class-of-requires c κs = search needs
+
+step-requires : tie.Need-step-requires Inv-loop μ-loop
+step-requires c κs = search needs
+
+enum-told : tie.Need-enum-told Inv-loop μ-loop
+enum-told c = search needs
+
+returns : tie.Need-returns Inv-loop μ-loop
+returns c = scan-misfit _ _ _ _ (c .before .before .before .before .before .before .loop .inv) (c .before .before .before .before .before .loop-test .taken) _ (c .before .before .before .class-of .ensures) (sym (c .enum-told .given .1) ∙ c .before .before .step .ensures)
+
+enum-known-o : tie.Need-enum-known-o Inv-loop μ-loop
+enum-known-o c = search needs
+
+add-i : tie.Need-add-i Inv-loop μ-loop
+add-i c = search needs
+
+loop-less : tie.Need-loop-less Inv-loop μ-loop
+loop-less c = search needs
+
+loop-again : tie.Need-loop-again Inv-loop μ-loop
+loop-again c = scan-next _ _ _ _ (c .before .before .before .before .before .before .before .loop .inv) (c .before .before .before .before .before .before .loop-test .taken) _ (c .before .before .before .before .class-of .ensures) _ _ (sym (c .before .o .given .1) ∙ c .before .before .before .step .ensures)
+
+returns-2 : tie.Need-returns-2 Inv-loop μ-loop
+returns-2 c = scan-wanting _ _ _ _ (c .before .before .loop .inv) (c .before .loop-test .left) (c .if1 .taken)
+
+returns-3 : tie.Need-returns-3 Inv-loop μ-loop
+returns-3 c = scan-whole _ _ _ _ (c .before .before .before .loop .inv) (c .before .before .loop-test .left) (c .before .if1 .left) (c .if2 .taken)
+
+returns-4 : tie.Need-returns-4 Inv-loop μ-loop
+returns-4 c = scan-open _ _ _ _ (c .before .before .before .loop .inv) (c .before .before .loop-test .left) (c .before .if1 .left) (c .if2 .left)
+
+pub find-fault-spec : {M : Type 1} → statement M
+find-fault-spec =
+    tie.close
+    (tie.spec
+    Inv-loop
+    μ-loop
+    loop-holds
+    shared-slice-read-class-of
+    class-of-requires
+    step-requires
+    enum-told
+    returns
+    enum-known-o
+    add-i
+    loop-less
+    loop-again
+    returns-2
+    returns-3
+    returns-4)

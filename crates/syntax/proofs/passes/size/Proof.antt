@@ -1,0 +1,58 @@
+-- The count of the first `i` bytes.
+use Rattle.syntax.proofs.Class.{code-small}
+use Rattle.atoms.specs.Words.{num}
+use mathlib.Core.Path.{refl}
+use Rattle.syntax.proofs.Size.{count-start, count-next, count-end}
+use Prim.Native.Nat.{_-_}
+use lib.ListN.{length}
+use Rattle.syntax.proofs.Size.{CountedTo}
+use borrow.Author.Needs.{needs}
+use native.Mathlib.Omega.{arith}
+use Rattle.syntax.proofs.passes.size.Statement.{statement}
+use Rattle.syntax.proofs.passes.size.Tie as tie
+
+abbrev Inv-loop : tie.InvT-loop
+Inv-loop s c₀ i₀ c i = CountedTo s c i
+
+abbrev μ-loop : tie.MeasureT-loop
+μ-loop s c₀ i₀ c i = length s - i
+
+loop-holds : tie.Need-loop-holds Inv-loop μ-loop
+unfolding num
+loop-holds c = count-start _ _ refl
+
+shared-slice-read-class-of : tie.Need-shared-slice-read-class-of Inv-loop μ-loop
+shared-slice-read-class-of c = search needs
+
+class-of-requires : tie.Need-class-of-requires Inv-loop μ-loop
+class-of-requires c κs = search needs
+
+counted-requires : tie.Need-counted-requires Inv-loop μ-loop
+counted-requires c κs = (rw (c .class-of .ensures) (code-small _), omega arith)
+
+add-i : tie.Need-add-i Inv-loop μ-loop
+add-i c = search needs
+
+loop-less : tie.Need-loop-less Inv-loop μ-loop
+loop-less c = search needs
+
+loop-again : tie.Need-loop-again Inv-loop μ-loop
+loop-again c = count-next _ _ _ _ _ (c .before .before .before .before .loop .inv) (c .before .before .before .loop-test .taken) (c .before .class-of .ensures) (c .counted .ensures)
+
+returns : tie.Need-returns Inv-loop μ-loop
+returns c = count-end _ _ _ (c .before .loop .inv) (c .loop-test .left)
+
+pub size-spec : {M : Type 1} → statement M
+size-spec =
+    tie.close
+    (tie.spec
+    Inv-loop
+    μ-loop
+    loop-holds
+    shared-slice-read-class-of
+    class-of-requires
+    counted-requires
+    add-i
+    loop-less
+    loop-again
+    returns)

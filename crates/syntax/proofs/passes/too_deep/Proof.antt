@@ -1,0 +1,74 @@
+-- No beginning up to `i` is too deep.
+use Rattle.syntax.proofs.Depth.{shallow-start, shallow-next, shallow-all, found-deep}
+use Prim.Native.Nat.{_-_}
+use lib.ListN.{length}
+use Rattle.syntax.proofs.Depth.{Shallow}
+use borrow.Author.Needs.{needs}
+use native.Mathlib.Omega.{arith}
+use Rattle.syntax.proofs.passes.too_deep.Statement.{statement}
+use Rattle.syntax.proofs.passes.too_deep.Tie as tie
+
+abbrev Inv-loop : tie.InvT-loop
+Inv-loop s opened₀ closed₀ i₀ opened closed i = Shallow s opened closed i
+
+abbrev μ-loop : tie.MeasureT-loop
+μ-loop s opened₀ closed₀ i₀ opened closed i = length s - i
+
+loop-holds : tie.Need-loop-holds Inv-loop μ-loop
+loop-holds c = shallow-start _
+
+shared-slice-read-one-if-same : tie.Need-shared-slice-read-one-if-same Inv-loop μ-loop
+shared-slice-read-one-if-same c = search needs
+
+one-if-same-requires : tie.Need-one-if-same-requires Inv-loop μ-loop
+one-if-same-requires c κs = search needs
+
+add-opened : tie.Need-add-opened Inv-loop μ-loop
+add-opened c = search needs
+
+shared-slice-read-one-if-same-2 : tie.Need-shared-slice-read-one-if-same-2 Inv-loop μ-loop
+shared-slice-read-one-if-same-2 c = search needs
+
+one-if-same-requires-2 : tie.Need-one-if-same-requires-2 Inv-loop μ-loop
+one-if-same-requires-2 c κs = search needs
+
+add-closed : tie.Need-add-closed Inv-loop μ-loop
+add-closed c = search needs
+
+add-i : tie.Need-add-i Inv-loop μ-loop
+add-i c = search needs
+
+add-if1 : tie.Need-add-if1 Inv-loop μ-loop
+add-if1 c = search needs
+
+returns : tie.Need-returns Inv-loop μ-loop
+returns c = found-deep _ _ _ _ (c .before .before .before .before .before .before .loop .inv) (c .before .before .before .before .before .loop-test .taken) _ _ (c .before .before .before .one-if-same .ensures .0) (c .before .one-if-same2 .ensures .0) (c .before .before .before .one-if-same .ensures .1) (c .before .one-if-same2 .ensures .1) (c .if1 .taken)
+
+loop-less : tie.Need-loop-less Inv-loop μ-loop
+loop-less c = search needs
+
+loop-again : tie.Need-loop-again Inv-loop μ-loop
+loop-again c = shallow-next _ _ _ _ (c .before .before .before .before .before .before .loop .inv) (c .before .before .before .before .before .loop-test .taken) _ _ (c .before .before .before .one-if-same .ensures .0) (c .before .one-if-same2 .ensures .0) (c .before .before .before .one-if-same .ensures .1) (c .before .one-if-same2 .ensures .1) (λ h. omega arith)
+
+returns-2 : tie.Need-returns-2 Inv-loop μ-loop
+returns-2 c = shallow-all _ _ _ _ (c .before .loop .inv) (c .loop-test .left)
+
+pub too-deep-spec : {M : Type 1} → statement M
+too-deep-spec =
+    tie.close
+    (tie.spec
+    Inv-loop
+    μ-loop
+    loop-holds
+    shared-slice-read-one-if-same
+    one-if-same-requires
+    add-opened
+    shared-slice-read-one-if-same-2
+    one-if-same-requires-2
+    add-closed
+    add-i
+    add-if1
+    returns
+    loop-less
+    loop-again
+    returns-2)

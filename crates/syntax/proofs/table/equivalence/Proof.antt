@@ -1,0 +1,22 @@
+-- Three compounds, one after the other.
+use mathlib.Core.Path.{_∙_}
+use Rattle.syntax.proofs.Held.{then-equivalence}
+use borrow.Author.Needs.{needs}
+use Rattle.syntax.proofs.table.equivalence.Statement.{statement}
+use Rattle.syntax.proofs.table.equivalence.Tie as tie
+
+compound-requires : tie.Need-compound-requires
+compound-requires c κs = search needs
+
+compound-requires-2 : tie.Need-compound-requires-2
+compound-requires-2 c κs = search needs
+
+compound-requires-3 : tie.Need-compound-requires-3
+compound-requires-3 c κs = search needs
+
+returns : tie.Need-returns
+returns c = (c .compound3 .ensures .0 ∙ c .before .compound2 .ensures .0 ∙ c .before .before .before .compound .ensures .0, then-equivalence _ _ _ _ _ _ (c .before .before .before .compound .ensures .1) (c .before .compound2 .ensures .1) (c .compound3 .ensures .1))
+
+pub equivalence-spec : {M : Type 1} → statement M
+equivalence-spec =
+    tie.close (tie.spec compound-requires compound-requires-2 compound-requires-3 returns)

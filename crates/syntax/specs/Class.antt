@@ -1,0 +1,47 @@
+-- The class of each byte (document 01: "A constant table of 256 entries gives each byte's class").
+use mathlib.Core.Bool.{cond, _&&_}
+use mathlib.Core.List.{List, [], _∷_}
+use Prim.Native.Nat.{ℕ, _+_, _-_}
+use lib.Dec.{eqb, leb}
+
+pub data Class : Type 0 where
+  foreign closing ampersand bar greater equals blank tilde opening nought : Class
+  lowercase : ℕ → Class
+
+-- "`~` not, `&` and, `|` or, `>` implies, `=` equivalent, `0` ⊥, letters a to z, parentheses, spaces": letters count from a.
+unfoldable pub classOf : ℕ → Class
+classOf b =
+    cond (eqb b 126) tilde
+    (cond (eqb b 38) ampersand
+    (cond (eqb b 124) bar
+    (cond (eqb b 62) greater
+    (cond (eqb b 61) equals
+    (cond (eqb b 48) nought
+    (cond (eqb b 40) opening
+    (cond (eqb b 41) closing
+    (cond (eqb b 32) blank
+    (cond (leb 97 b && leb b 122) (lowercase (b - 97)) foreign)))))))))
+
+-- "Spaces anywhere": the classes of a text's bytes without its spaces.
+unfoldable pub tokens : List ℕ → List Class
+tokens [] = []
+tokens (b ∷ s) = cond (eqb b 32) (tokens s) (classOf b ∷ tokens s)
+
+-- What becomes of a state by one class after the other.
+unfoldable pub after : {A : Type 0} → (A → Class → A) → A → List Class → A
+after f a [] = a
+after f a (c ∷ l) = after f (f a c) l
+
+-- The code's number of each class.
+unfoldable pub codeOf : Class → ℕ
+codeOf foreign = 0
+codeOf closing = 1
+codeOf ampersand = 2
+codeOf bar = 3
+codeOf greater = 4
+codeOf equals = 5
+codeOf blank = 6
+codeOf tilde = 7
+codeOf opening = 8
+codeOf nought = 9
+codeOf (lowercase l) = 10 + l

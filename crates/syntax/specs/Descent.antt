@@ -1,0 +1,63 @@
+-- What the functions of the descent ask and give. A position stands for the tokens from it on.
+use mathlib.Core.List.{List, [], _∷_, _++_}
+use mathlib.Core.Path.{_≡_}
+use Prim.Native.Nat.{ℕ, _≤_, _<_}
+use lib.ListN.{length, drop}
+use Rattle.syntax.specs.Class.{Class, tokens, codeOf, after}
+use Rattle.syntax.specs.Grammar.{Tree, Level, negation, conjunction, disjunction, implication, Parses}
+use Rattle.syntax.specs.Nodes.{withTree}
+use Rattle.syntax.specs.Scan.{move, wanted, had}
+use Rattle.syntax.specs.Parts.{held, Sound, Holds}
+use Rattle.syntax.specs.declared.Parts.{Parts}
+use Rattle.syntax.specs.declared.bytes.Token.{Token}
+use Rattle.syntax.specs.declared.table.Parsed.{Parsed}
+
+abbrev pub rest : List ℕ → ℕ → List Class
+rest s at = tokens (drop at s)
+
+-- The number of the first class, 0 where there is none; what comes after it.
+abbrev pub headCode : List Class → ℕ
+headCode [] = 0
+headCode (c ∷ l) = codeOf c
+
+abbrev pub tail : List Class → List Class
+tail [] = []
+tail (c ∷ l) = l
+
+-- The first token from a position on, and the position after it.
+pub record NextToken (s : List ℕ) (at : ℕ) (t : Token) : Type 0 where
+  pub class-is : t .class ≡ headCode (rest s at)
+  pub left : rest s (t .next) ≡ tail (rest s at)
+  pub forward : 0 < t .class → at < t .next
+  pub inside : t .next ≤ length s
+
+-- An operand is wanted at a position, and the text fits from there to its end.
+pub record Wanted (s : List ℕ) (at : ℕ) : Type 0 where
+  pub depth : ℕ
+  pub fits : after move (wanted depth) (rest s at) ≡ had 0
+  pub inside : at ≤ length s
+
+-- An operand of the level was read, and the table p has its parts.
+pub record Operand (k : Level) (s : List ℕ) (at : ℕ) (p : Parts) (r : Parsed) : Type 0 where
+  pub text : List Class
+  pub tree : Tree
+  pub parsed : Parses k text tree
+  pub split : rest s at ≡ text ++ rest s (r .next)
+  pub forward : at < r .next
+  pub inside : r .next ≤ length s
+  pub holds : Holds (withTree (held p) tree) r
+
+-- No operator of the level, or of one that binds tighter, comes next.
+abbrev pub Stops : Level → List Class → Type 0
+Stops negation l = Unit {0}
+Stops conjunction l = headCode l ≡ 2 → ⊥
+Stops disjunction l = (headCode l ≡ 2 → ⊥) × (headCode l ≡ 3 → ⊥)
+Stops implication l = (headCode l ≡ 2 → ⊥) × (headCode l ≡ 3 → ⊥) × (headCode l ≡ 4 → ⊥) × (headCode l ≡ 5 → ⊥)
+
+pub record Asks (s : List ℕ) (at : ℕ) (p : Parts) : Type 0 where
+  pub wanted : Wanted s at
+  pub sound : Sound p
+
+pub record Gives (k : Level) (s : List ℕ) (at : ℕ) (p : Parts) (r : Parsed) : Type 0 where
+  pub operand : Operand k s at p r
+  pub stops : Stops k (rest s (r .next))

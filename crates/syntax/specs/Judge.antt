@@ -1,0 +1,40 @@
+-- The judgement of a text as a function, so that it can be computed for a given text. It is proved to be that of the refusals' lines
+-- (proofs/Judge.antt), so nothing about it need be believed.
+use mathlib.Core.Bool.{Bool, false, cond, _||_}
+use mathlib.Core.List.{List, [], _∷_, map}
+use mathlib.Core.Option.{Option, none, some}
+use Prim.Native.Nat.{ℕ, _+_}
+use lib.Dec.{eqb, ltb}
+use lib.ListN.{length}
+use Rattle.syntax.specs.Class.{classOf}
+use Rattle.syntax.specs.Grammar.{Tree}
+use Rattle.syntax.specs.Reading.{reading}
+use Rattle.syntax.specs.Nodes.{nodes, named}
+use Rattle.syntax.specs.Refusal.{Refused, Accepted}
+use Rattle.syntax.specs.Scan.{wanted, fitting}
+
+pub data Judgement : Type 0 where
+  refused : ℕ → ℕ → Judgement
+  accepted : Tree → Judgement
+
+abbrev pub isByte : ℕ → ℕ → ℕ
+isByte x b = cond (eqb b x) 1 0
+
+-- Some beginning is too deep, after so many opening and closing parentheses.
+unfoldable pub deepAfter : ℕ → ℕ → List ℕ → Bool
+deepAfter opened closed [] = false
+deepAfter opened closed (b ∷ s) =
+    ltb (64 + (closed + isByte 41 b)) (opened + isByte 40 b) || deepAfter (opened + isByte 40 b) (closed + isByte 41 b) s
+
+abbrev pub judgeTree : ℕ → Option Tree → Judgement
+judgeTree place none = refused 3 place
+judgeTree place (some t) = cond (ltb 64 (named (nodes t .table))) (refused 4 0) (accepted t)
+
+unfoldable pub judge : List ℕ → Judgement
+judge s =
+    cond (eqb (length s) 0 || ltb 4096 (length s)) (refused 1 0)
+    (cond (deepAfter 0 0 s) (refused 2 0) (judgeTree (fitting (wanted 0) (map classOf s)) (reading s)))
+
+abbrev pub Right : List ℕ → Judgement → Type 0
+Right s (refused number place) = Refused s number place
+Right s (accepted t) = Accepted s t

@@ -1,0 +1,76 @@
+-- The reading worked out token by token, as a function. It is proved to be the grammar's (proofs/Unique.antt), so nothing about it
+-- need be believed; it serves to compute the reading of a given text.
+use mathlib.Core.List.{List}
+use mathlib.Core.Option.{Option, none, some}
+use Prim.Native.Nat.{ℕ, zero, suc}
+use Rattle.syntax.specs.Class.{Class, foreign, closing, ampersand, bar, greater, equals, blank, tilde, opening, nought, lowercase, tokens, after}
+use Rattle.syntax.specs.Grammar.{Tree, letter, falsum, and, or, implies, equal}
+
+-- What waits for a formula of the weakest level: nothing; a parenthesis, with the `~`, the left of `&` and the left of `|` before it;
+-- the left of `>` or `=`.
+pub data Outer : Type 0 where
+  top : Outer
+  paren : ℕ → Option Tree → Option Tree → Outer → Outer
+  implied equated : Tree → Outer → Outer
+
+-- An operand is wanted, after so many `~` and the left parts given; or one was read up to `&`.
+pub data Reader : Type 0 where
+  stuck : Reader
+  want : ℕ → Option Tree → Option Tree → Outer → Reader
+  have : Tree → Option Tree → Outer → Reader
+
+unfoldable pub negated : ℕ → Tree → Tree
+negated zero t = t
+negated (suc n) t = negated n (implies t falsum)
+
+abbrev pub joinLeft : (Tree → Tree → Tree) → Option Tree → Tree → Tree
+joinLeft f none t = t
+joinLeft f (some l) t = f l t
+
+abbrev pub operand : ℕ → Option Tree → Tree → Tree
+operand n a t = joinLeft and a (negated n t)
+
+unfoldable pub shut : Tree → Outer → Reader
+shut t top = stuck
+shut t (paren n a o k) = have (operand n a t) o k
+shut t (implied l k) = shut (implies l t) k
+shut t (equated l k) = shut (equal l t) k
+
+unfoldable pub finish : Tree → Outer → Option Tree
+finish t top = some t
+finish t (paren n a o k) = none
+finish t (implied l k) = finish (implies l t) k
+finish t (equated l k) = finish (equal l t) k
+
+unfoldable pub readToken : Reader → Class → Reader
+readToken stuck c = stuck
+readToken (want n a o k) foreign = stuck
+readToken (want n a o k) closing = stuck
+readToken (want n a o k) ampersand = stuck
+readToken (want n a o k) bar = stuck
+readToken (want n a o k) greater = stuck
+readToken (want n a o k) equals = stuck
+readToken (want n a o k) blank = want n a o k
+readToken (want n a o k) tilde = want (suc n) a o k
+readToken (want n a o k) opening = want 0 none none (paren n a o k)
+readToken (want n a o k) nought = have (operand n a falsum) o k
+readToken (want n a o k) (lowercase l) = have (operand n a (letter l)) o k
+readToken (have t o k) foreign = stuck
+readToken (have t o k) closing = shut (joinLeft or o t) k
+readToken (have t o k) ampersand = want 0 (some t) o k
+readToken (have t o k) bar = want 0 none (some (joinLeft or o t)) k
+readToken (have t o k) greater = want 0 none none (implied (joinLeft or o t) k)
+readToken (have t o k) equals = want 0 none none (equated (joinLeft or o t) k)
+readToken (have t o k) blank = have t o k
+readToken (have t o k) tilde = stuck
+readToken (have t o k) opening = stuck
+readToken (have t o k) nought = stuck
+readToken (have t o k) (lowercase l) = stuck
+
+unfoldable pub result : Reader → Option Tree
+result stuck = none
+result (want n a o k) = none
+result (have t o k) = finish (joinLeft or o t) k
+
+unfoldable pub reading : List ℕ → Option Tree
+reading s = result (after readToken (want 0 none none top) (tokens s))

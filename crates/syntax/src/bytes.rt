@@ -1,0 +1,60 @@
+// The class of a byte, and the next token of a text.
+use super::classes;
+ghost use mathlib.Core.Path.{_≡_};
+ghost use Prim.Native.Nat.{_≤_};
+ghost use lib.ListN.{length};
+ghost use Rattle.syntax.specs.Class.{classOf, codeOf};
+ghost use Rattle.syntax.specs.Descent.{NextToken};
+
+pub const FOREIGN: u8 = 0;
+
+pub const CLOSING: u8 = 1;
+
+pub const AND: u8 = 2;
+
+pub const OR: u8 = 3;
+
+pub const IMPLIES: u8 = 4;
+
+pub const EQUALS: u8 = 5;
+
+pub const BLANK: u8 = 6;
+
+pub const NOT: u8 = 7;
+
+pub const OPENING: u8 = 8;
+
+pub const FALSUM: u8 = 9;
+
+// The letter a; the others follow.
+pub const LETTER: u8 = 10;
+
+pub fn class_of(b: u8) -> u8
+    ensures { λ r. ⌜ r ≡ codeOf (classOf b) ⌝ }
+{
+    classes::CLASS[b as usize]
+}
+
+pub struct Token {
+    pub class: u8,
+    pub next: usize,
+}
+
+// The first token from a position on, spaces passed over; past the last, a foreign one. Every caller's position is in the text.
+pub fn next_token(s: &[u8], at: usize) -> Token
+    requires { ⌜ at ≤ length (now s) ⌝ }
+    ensures { λ r. ⌜ NextToken (now (s .entry)) at r ⌝ }
+{
+    let mut i = at;
+    while i < s.len() {
+        let class = class_of(s[i]);
+        if class != BLANK {
+            return Token { class, next: i + 1 };
+        }
+        i += 1;
+    }
+    Token {
+        class: FOREIGN,
+        next: i,
+    }
+}

@@ -1,0 +1,78 @@
+// The reader of formula text: any bytes to the parts of a formula, or the first refusal of 1 to 4 that the text meets.
+ghost use Rattle.syntax.specs.Answer.{Answers, Refuses};
+
+mod bytes;
+mod classes;
+mod descent;
+mod passes;
+mod table;
+
+pub enum Connective {
+    And,
+    Or,
+    Implies,
+}
+
+// The parts of a compound are earlier nodes, by index.
+pub enum Part {
+    Letter(u8),
+    Falsum,
+    Compound(Connective, u8, u8),
+}
+
+pub struct Node {
+    pub part: Part,
+}
+
+// The first `count` nodes: inner parts before outer ones, left before right.
+pub struct Parts {
+    pub nodes: [Node; 65],
+    pub count: u8,
+}
+
+// A refusal's number and place, or the index of the whole formula.
+pub enum Outcome {
+    Refusal(u8, usize),
+    Formula(u8),
+}
+
+pub struct Reading {
+    pub outcome: Outcome,
+    pub parts: Parts,
+}
+
+fn refused(number: u8, place: usize) -> Reading
+    ensures { λ r. ⌜ Refuses number place r ⌝ }
+{
+    Reading {
+        outcome: Outcome::Refusal(number, place),
+        parts: table::empty(),
+    }
+}
+
+// Reads a text. Refused 1, 2, 3 (with its place), 4: without parts.
+pub fn read(text: &[u8]) -> Reading
+    ensures { λ r. ⌜ Answers (now (text .entry)) r ⌝ }
+{
+    if text.len() == 0 {
+        return refused(1, 0);
+    }
+    if 4096 < text.len() {
+        return refused(1, 0);
+    }
+    if passes::too_deep(text) {
+        return refused(2, 0);
+    }
+    if let passes::Scan::Fault(place) = passes::find_fault(text) {
+        return refused(3, place);
+    }
+    if 64 < passes::size(text) {
+        return refused(4, 0);
+    }
+    let whole = descent::implication(text, 0, table::empty());
+    let parts = whole.parts;
+    Reading {
+        outcome: Outcome::Formula(whole.root),
+        parts,
+    }
+}
