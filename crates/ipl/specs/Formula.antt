@@ -7,9 +7,6 @@ pub data Formula : Type 0 where
   falsum : Formula
   and or implies : Formula → Formula → Formula
 
--- "`~p` is p > 0; p = q is (p > q) & (q > p)."
-abbrev pub neg : Formula → Formula
-neg p = implies p falsum
-
+-- "p = q is (p > q) & (q > p)."
 abbrev pub iff : Formula → Formula → Formula
 iff p q = and (implies p q) (implies q p)

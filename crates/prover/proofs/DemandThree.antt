@@ -114,9 +114,6 @@ module _ (s : Session) (in-range : inRange s ≡ true) (r : Reached (book s)) wh
 
   -- ---- questions
   module _ (g : ℕ) (x : Answered) where
-    k : Book
-    k = book s
-
     -- The book after an answer o.
     next-is : (o : Outcome) → answer (book s) g ≡ o
         → next (book s) (B.question g) ≡ cond (eqb (numberOf o) 0) (record { n = s .n; flats = flatsOf (s .flats); implications = implicationsOf (s .implications); steps = stepsAfter (stepsOf (s .steps)) o }) (book s)
