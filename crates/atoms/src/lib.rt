@@ -3,7 +3,10 @@ ghost use mathlib.Core.Path.{_≡_};
 ghost use Prim.Native.Nat.{_^_, _<_};
 ghost use lib.Dec.{eqb};
 ghost use Rattle.atoms.specs.Sets.{limit, has, union, minus, within, meets};
+ghost use Rattle.atoms.specs.Bytes.{numberAt};
 ghost use Rattle.atoms.specs.Words.{num, everyAtom, singleOrEmpty, below, HighestOrEmpty, rowOf, RowSet};
+
+pub mod little_endian;
 
 pub struct AtomSet {
     pub bits: u64,
@@ -134,5 +137,14 @@ pub fn set_row(table: &mut [u64], i: usize, s: AtomSet)
 {
     if i < table.len() {
         table[i] = s.bits;
+    }
+}
+
+// The set in the 8 bytes at `at`.
+pub fn load(bytes: &[u8], at: usize) -> AtomSet
+    ensures { λ r. ⌜ num r ≡ numberAt (now (bytes .entry)) at 8 ⌝ }
+{
+    AtomSet {
+        bits: little_endian::number(bytes, at, 8),
     }
 }
