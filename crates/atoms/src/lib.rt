@@ -1,7 +1,7 @@
 // Sets of atoms. Atom i counts 2^i; every function is total, for any number and any set.
 ghost use mathlib.Core.Path.{_≡_};
 ghost use Prim.Native.Nat.{_^_, _<_};
-ghost use lib.Dec.{eqb};
+ghost use lib.Dec.{eqb, leb};
 ghost use Rattle.atoms.specs.Sets.{limit, has, union, minus, within, meets};
 ghost use Rattle.atoms.specs.Bytes.{numberAt};
 ghost use Rattle.atoms.specs.Words.{num, everyAtom, singleOrEmpty, below, HighestOrEmpty, rowOf, RowSet};
@@ -19,6 +19,13 @@ impl AtomSet {
     pub fn bounded(self)
         ensures { λ _. ⌜ num self < 2 ^ limit ⌝ }
     {}
+
+    // Whether there is room for n atoms.
+    pub fn room_for(n: u8) -> bool
+        ensures { λ r. ⌜ r ≡ leb n limit ⌝ }
+    {
+        n <= 64
+    }
 
     // The set of atom i alone; empty where i is no atom, as for ⊥.
     pub fn single(i: u8) -> Self

@@ -1,0 +1,1 @@
+-- Theorems and laws of the crate `certificate`.

@@ -1,0 +1,7 @@
+-- The answer sheet of document 01, here called certificate: what it says, its bytes, how they are read, when it is accepted.
+pub mod Certificate
+pub mod Format
+pub mod Layout
+pub mod Judge
+pub mod Accepted
+pub mod Checked
