@@ -1,1 +1,3 @@
 -- Theorems and laws of the crate `certificate`.
+pub mod Rows
+pub mod Entries

@@ -3,9 +3,11 @@ use mathlib.Core.Bool.{Bool, true, false}
 use mathlib.Core.List.{List}
 use mathlib.Core.Option.{Option, none, some}
 use mathlib.Core.Path.{_≡_}
-use Prim.Native.Nat.{ℕ, _+_, _*_, _^_, _<_}
+use Prim.Native.Nat.{ℕ, _+_, _*_, _^_, _≤_, _<_}
 use lib.Dec.{T}
 use lib.ListN.{length}
+use Rattle.atoms.specs.Sets.{limit}
+use Rattle.ipl.specs.Range.{implicationInRange}
 use Rattle.ipl.specs.Clause.{Flat, Implication}
 use Rattle.ipl.specs.Search.{Step}
 use Rattle.certificate.specs.Certificate.{Problem, Claim, Judgement, accepted, refused}
@@ -17,11 +19,11 @@ use Rattle.certificate.specs.declared.Checked.{Checked}
 use Rattle.certificate.specs.declared.Checked.the-variants.{Accepted, Refused}
 use Rattle.certificate.specs.declared.Wrong.{Wrong}
 use Rattle.certificate.specs.declared.Wrong.the-variants.{Nothing, At}
-use Rattle.certificate.specs.declared.contents.Entry.{Entry}
-use Rattle.certificate.specs.declared.contents.Entry.the-variants.{Rows, Missing}
-use Rattle.certificate.specs.declared.contents.Layout.{Layout}
-use Rattle.certificate.specs.declared.contents.Layout.the-variants.{Read}
-use Rattle.certificate.specs.declared.contents.Layout.the-variants as layout
+use Rattle.certificate.specs.declared.layout.Entry.{Entry}
+use Rattle.certificate.specs.declared.layout.Entry.the-variants.{Rows, Missing}
+use Rattle.certificate.specs.declared.layout.Layout.{Layout}
+use Rattle.certificate.specs.declared.layout.Layout.the-variants.{Read}
+use Rattle.certificate.specs.declared.layout.Layout.the-variants as layout
 
 -- The problem and the claim that a table of contents finds in the bytes.
 abbrev pub problemBy : List ℕ → Contents → Problem
@@ -91,3 +93,9 @@ stepsIn s start count = rows (λ k. stepFrom s (start + 9 * k)) count
 
 abbrev pub worldsIn : List ℕ → ℕ → ℕ → List ℕ
 worldsIn s start count = rows (λ k. worldFrom s (start + 8 * k)) count
+
+-- The implication at a place of the bytes, in range over the atoms, and the flat clauses before it.
+pub record Within (s : List ℕ) (count at : ℕ) : Type 0 where
+  pub flats-there : 38 + 16 * count ≤ length s
+  pub there : at + 3 ≤ length s
+  pub ranged : T (implicationInRange limit (implicationFrom s at))

@@ -36,7 +36,7 @@ fn claim_least(refuting: bool) -> usize
 }
 
 // The entry at `at`, of this kind and start: the rows of a width in its body after `extra` bytes.
-fn entry(
+fn read_entry(
     bytes: &[u8],
     at: usize,
     kind: u8,
@@ -71,7 +71,7 @@ fn read_claim(bytes: &[u8], flats: usize, implications: usize, refuting: bool) -
 {
     let start = 38 + 16 * flats + 3 * implications + 1;
     let width = claim_width(refuting);
-    let Entry::Rows(rows) = entry(bytes, 28, claim_kind(refuting), start, 0, width) else {
+    let Entry::Rows(rows) = read_entry(bytes, 28, claim_kind(refuting), start, 0, width) else {
         return Layout::Refused(13);
     };
     if rows < claim_least(refuting) {
@@ -94,14 +94,14 @@ pub fn read(bytes: &[u8]) -> Layout
     if byte(bytes, 0) != 4 {
         return Layout::Refused(13);
     }
-    let Entry::Rows(flats) = entry(bytes, 1, 1, 37, 1, 16) else {
+    let Entry::Rows(flats) = read_entry(bytes, 1, 1, 37, 1, 16) else {
         return Layout::Refused(13);
     };
-    let Entry::Rows(implications) = entry(bytes, 10, 2, 38 + 16 * flats, 0, 3) else {
+    let Entry::Rows(implications) = read_entry(bytes, 10, 2, 38 + 16 * flats, 0, 3) else {
         return Layout::Refused(13);
     };
     let goal = 38 + 16 * flats + 3 * implications;
-    let Entry::Rows(goals) = entry(bytes, 19, 3, goal, 0, 1) else {
+    let Entry::Rows(goals) = read_entry(bytes, 19, 3, goal, 0, 1) else {
         return Layout::Refused(13);
     };
     if goals != 1 {

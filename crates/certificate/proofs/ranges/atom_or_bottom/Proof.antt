@@ -1,0 +1,13 @@
+use borrow.Author.Needs.{needs}
+use native.Mathlib.Omega.{arith}
+use Rattle.certificate.proofs.ranges.atom_or_bottom.Statement.{statement}
+use Rattle.certificate.proofs.ranges.atom_or_bottom.Tie as tie
+
+returns : tie.Need-returns
+returns c = ?
+
+returns-2 : tie.Need-returns-2
+returns-2 c = ?
+
+pub atom-or-bottom-spec : {M : Type 1} → statement M
+atom-or-bottom-spec = tie.close (tie.spec returns returns-2)

@@ -1,0 +1,19 @@
+use borrow.Author.Needs.{needs}
+use native.Mathlib.Omega.{arith}
+use Rattle.certificate.proofs.ranges.set_in_range.Statement.{statement}
+use Rattle.certificate.proofs.ranges.set_in_range.Tie as tie
+
+bounded-requires : tie.Need-bounded-requires
+bounded-requires c κs = search needs
+
+below-requires : tie.Need-below-requires
+below-requires c κs = search needs
+
+within-requires : tie.Need-within-requires
+within-requires c κs = search needs
+
+returns : tie.Need-returns
+returns c = ?
+
+pub set-in-range-spec : {M : Type 1} → statement M
+set-in-range-spec = tie.close (tie.spec bounded-requires below-requires within-requires returns)

@@ -1,0 +1,37 @@
+use borrow.Author.Needs.{needs}
+use native.Mathlib.Omega.{arith}
+use Rattle.certificate.proofs.ranges.step_in_range.Statement.{statement}
+use Rattle.certificate.proofs.ranges.step_in_range.Tie as tie
+
+byte-requires : tie.Need-byte-requires
+byte-requires c κs = search needs
+
+cast-if1 : tie.Need-cast-if1
+cast-if1 c = search needs
+
+add-load : tie.Need-add-load
+add-load c = search needs
+
+load-requires : tie.Need-load-requires
+load-requires c κs = search needs
+
+set-in-range-requires : tie.Need-set-in-range-requires
+set-in-range-requires c κs = search needs
+
+returns : tie.Need-returns
+returns c = ?
+
+returns-2 : tie.Need-returns-2
+returns-2 c = ?
+
+pub step-in-range-spec : {M : Type 1} → statement M
+step-in-range-spec =
+    tie.close
+    (tie.spec
+    byte-requires
+    cast-if1
+    add-load
+    load-requires
+    set-in-range-requires
+    returns
+    returns-2)
