@@ -1,3 +1,7 @@
 -- Theorems and laws of the crate `certificate`.
 pub mod Rows
 pub mod Entries
+pub mod Numbers
+pub mod Closing
+pub mod InRange
+pub mod Worlds

@@ -1,5 +1,5 @@
 -- Tests over the first rows of a body: what a loop over them learns at each row.
-use mathlib.Core.Bool.{Bool, true, false, _&&_, _||_}
+use mathlib.Core.Bool.{Bool, true, false, _&&_, _||_, true≢false}
 use mathlib.Core.List.{List, [], _∷_, _++_}
 use mathlib.Core.Path.{_≡_, refl, sym, ap, _∙_, subst}
 use Prim.Native.Nat.{ℕ, zero, suc, _+_, _≤_, _<_}
@@ -8,7 +8,7 @@ use native.Mathlib.Nat.{not-suc-le-zero}
 use native.Mathlib.Numerals.{add-one}
 use native.Mathlib.Omega.{arith}
 use lib.ListN.{length, getD, take, length-append, List·getD-append}
-use lib.Seq.{getD-at}
+use lib.Seq.{getD-at, take-all, take-append-le}
 use Rattle.ipl.specs.Lists.{all, any}
 use Rattle.ipl.proofs.Lists.{all-snoc}
 use Rattle.certificate.specs.Layout.{rows}
@@ -40,6 +40,15 @@ module _ {A : Type 0} (row : ℕ → A) where
     | no l ↦ subst (λ (j : ℕ). getD (rows row k ++ (row k ∷ [])) j d ≡ row j) (omega arith) (getD-at (rows row k) (row k) [] d k (rows-length k))
   ]
 
+  pub take-rows : (count i : ℕ) → i ≤ count → take i (rows row count) ≡ rows row i
+  unfolding rows
+  take-rows zero i h = let e : 0 ≡ i = omega arith in subst (λ (j : ℕ). take j (rows row 0) ≡ rows row j) e refl
+  take-rows (suc k) i h = elim (decLe i k) [
+    | yes l ↦ take-append-le i (rows row k) (row k ∷ []) (omega (arith, rows-length k)) ∙ take-rows k i l
+    | no l ↦ let e : suc k ≡ i = omega arith in
+        subst (λ (j : ℕ). take j (rows row (suc k)) ≡ rows row j) e (take-all (suc k) (rows row (suc k)) (omega (arith, rows-length (suc k))))
+  ]
+
   module _ (p : A → Bool) where
     all-suc : (k : ℕ) → all p (rows row (suc k)) ≡ all p (rows row k) && p (row k)
     unfolding rows
@@ -67,6 +76,13 @@ module _ {A : Type 0} (row : ℕ → A) where
         last : (a b : Bool) → b ≡ false → a && b ≡ false
         last true b z = z
         last false b z = refl
+
+    pub all-at : (count i : ℕ) → i < count → all p (rows row count) ≡ true → p (row i) ≡ true
+    all-at count i h e = go (p (row i)) refl
+      where
+        go : (b : Bool) → p (row i) ≡ b → b ≡ true
+        go true f = refl
+        go false f = absurd (true≢false (sym e ∙ all-fails count i h f))
 
     pub all-done : (count i : ℕ) → i ≤ count → count ≤ i → all p (rows row i) ≡ true → all p (rows row count) ≡ true
     all-done count i h k e = subst (λ (j : ℕ). all p (rows row j) ≡ true) (omega arith) e

@@ -5,15 +5,19 @@ use mathlib.Core.Option.{Option, none, some}
 use mathlib.Core.Path.{_≡_}
 use Prim.Native.Nat.{ℕ, _+_, _*_, _^_, _≤_, _<_}
 use lib.Dec.{T}
-use lib.ListN.{length}
+use lib.ListN.{length, take}
 use Rattle.atoms.specs.Sets.{limit}
+use Rattle.atoms.specs.Words.{rowOf, rowCount}
+use Rattle.atoms.specs.Bytes.{numberAt}
+use Rattle.ipl.specs.Lists.{all}
 use Rattle.ipl.specs.Range.{implicationInRange}
 use Rattle.ipl.specs.Clause.{Flat, Implication}
-use Rattle.ipl.specs.Search.{Step}
+use Rattle.ipl.specs.Search.{Step, known}
+use Rattle.sat.specs.Table.{clauses}
 use Rattle.certificate.specs.Certificate.{Problem, Claim, Judgement, accepted, refused}
 use Rattle.certificate.specs.Format.{claimStart, claimWidth}
 use Rattle.certificate.specs.Layout.{rows, flatFrom, implicationFrom, stepFrom, worldFrom, rowsIn, entryRight, refuting, flatCount, implicationCount, claimCount, claimLaid, laidOut, problemIn, claimIn}
-use Rattle.certificate.specs.Judge.{inRange}
+use Rattle.certificate.specs.Judge.{inRange, stepProves}
 use Rattle.certificate.specs.declared.Contents.{Contents}
 use Rattle.certificate.specs.declared.Checked.{Checked}
 use Rattle.certificate.specs.declared.Checked.the-variants.{Accepted, Refused}
@@ -99,3 +103,51 @@ pub record Within (s : List ℕ) (count at : ℕ) : Type 0 where
   pub flats-there : 38 + 16 * count ≤ length s
   pub there : at + 3 ≤ length s
   pub ranged : T (implicationInRange limit (implicationFrom s at))
+
+-- The same of each implication from a start on.
+pub record EachWithin (s : List ℕ) (flats start count : ℕ) : Type 0 where
+  pub flats-there : 38 + 16 * flats ≤ length s
+  pub there : start + 3 * count ≤ length s
+  pub ranged : all (implicationInRange limit) (implicationsIn s start count) ≡ true
+
+-- The steps and the worlds that a table of contents finds.
+abbrev pub stepsBy : List ℕ → Contents → List Step
+stepsBy s k = stepsIn s (claimStart (k .flats) (k .implications)) (k .rows)
+
+abbrev pub worldsBy : List ℕ → Contents → List ℕ
+worldsBy s k = worldsIn s (claimStart (k .flats) (k .implications)) (k .rows)
+
+-- A table after one side of the flat clauses, the first at a start, was put into its first rows.
+pub record ColumnLoaded (s : List ℕ) (start count : ℕ) (before after : List ℕ) : Type 0 where
+  pub size : length after ≡ length before
+  pub rows-are : (k : ℕ) → k < count → rowOf after k ≡ numberAt s (start + 16 * k) 8
+
+-- Before the steps: the tables hold the flat clauses and have room for the clauses of the steps.
+pub record StepsReady (s : List ℕ) (k : Contents) (left right : List ℕ) : Type 0 where
+  pub ranged : Ranged s k
+  pub derives : k .refuting ≡ false
+  pub room-left : k .flats + k .rows ≤ rowCount left
+  pub room-right : k .flats + k .rows ≤ rowCount right
+  pub loaded : clauses left right (k .flats) ≡ flatsIn s (k .flats)
+
+-- Before step i: the tables hold the flat clauses and those of the first i steps.
+pub record StepReady (s : List ℕ) (k : Contents) (i : ℕ) (left right : List ℕ) : Type 0 where
+  pub ranged : Ranged s k
+  pub derives : k .refuting ≡ false
+  pub listed : i < k .rows
+  pub room-left : k .flats + k .rows ≤ rowCount left
+  pub room-right : k .flats + k .rows ≤ rowCount right
+  pub loaded : clauses left right (k .flats + i) ≡ known (problemBy s k .flats) (problemBy s k .implications) (take i (stepsBy s k))
+
+-- After it.
+pub record StepJudged (s : List ℕ) (k : Contents) (i : ℕ) (left right left-after right-after : List ℕ) (r : Bool) : Type 0 where
+  pub judged : r ≡ stepProves (problemBy s k) (stepsBy s k) i
+  pub size-left : length left-after ≡ length left
+  pub size-right : length right-after ≡ length right
+  pub loaded : clauses left-after right-after (k .flats + (i + 1)) ≡ known (problemBy s k .flats) (problemBy s k .implications) (take (i + 1) (stepsBy s k))
+
+-- Before the worlds: the tables hold the flat clauses.
+pub record WorldsReady (s : List ℕ) (k : Contents) (left right : List ℕ) : Type 0 where
+  pub ranged : Ranged s k
+  pub refutes : k .refuting ≡ true
+  pub loaded : clauses left right (k .flats) ≡ flatsIn s (k .flats)

@@ -25,7 +25,7 @@ implicationFrom s at = record { a = getD s at 0; b = getD s (at + 1) 0; c = getD
 unfoldable pub stepFrom : List ℕ → ℕ → Step
 stepFrom s at = record { number = getD s at 0; assumed = numberAt s (at + 1) 8 }
 
-unfoldable pub worldFrom : List ℕ → ℕ → ℕ
+abbrev pub worldFrom : List ℕ → ℕ → ℕ
 worldFrom s at = numberAt s at 8
 
 -- The contents entry at a place: how many rows of a width its body has after `extra` bytes.

@@ -1,9 +1,15 @@
 // Certificates (document 01: answer sheets): read, judged, and read back.
+ghost use mathlib.Core.Path.{_≡_};
+ghost use Rattle.certificate.specs.Judge.{judge, judgeRead, wrongPlace};
+ghost use Rattle.certificate.specs.Checked.{judgementOf, problemBy, claimBy, Sized, Ranged, placeOf};
 
 mod bytes_at;
 mod layout;
 mod ranges;
 mod closing_clauses;
+mod flat_table;
+mod derivation;
+mod countermodel;
 
 // How many rows each body has; whether the last one holds worlds or steps.
 pub struct Contents {
@@ -25,3 +31,41 @@ pub enum Wrong {
     At(usize),
 }
 
+// Judges any bytes: 13, 14, 15, 16 with its place, or accepted.
+pub fn check(bytes: &[u8]) -> Checked
+    ensures { λ r. ⌜ judgementOf (now (bytes .entry)) r ≡ judge (now (bytes .entry)) ⌝ }
+{
+    match layout::read(bytes) {
+        layout::Layout::Read(k) => check_bodies(bytes, k),
+        layout::Layout::Refused(number) => Checked::Refused(number, 0),
+    }
+}
+
+// Judges the bodies. `check` meets the size by the layout.
+fn check_bodies(bytes: &[u8], k: Contents) -> Checked
+    requires { ⌜ Sized (now bytes) k ⌝ }
+    ensures { λ r. ⌜ judgementOf (now (bytes .entry)) r ≡ judgeRead (problemBy (now (bytes .entry)) k) (claimBy (now (bytes .entry)) k) ⌝ }
+{
+    if !ranges::in_range(bytes, k) {
+        return Checked::Refused(14, 0);
+    }
+    if !closing_clauses::all_closed(bytes, k) {
+        return Checked::Refused(15, 0);
+    }
+    match wrong_place(bytes, k) {
+        Wrong::Nothing => Checked::Accepted(k),
+        Wrong::At(place) => Checked::Refused(16, place),
+    }
+}
+
+// The place of what is wrong in the claim. `check_bodies` meets the ranges.
+fn wrong_place(bytes: &[u8], k: Contents) -> Wrong
+    requires { ⌜ Ranged (now bytes) k ⌝ }
+    ensures { λ r. ⌜ placeOf r ≡ wrongPlace (problemBy (now (bytes .entry)) k) (claimBy (now (bytes .entry)) k) ⌝ }
+{
+    if k.refuting {
+        countermodel::wrong_world(bytes, k)
+    } else {
+        derivation::wrong_step(bytes, k)
+    }
+}

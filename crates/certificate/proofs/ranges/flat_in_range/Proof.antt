@@ -1,5 +1,8 @@
+-- Both sides of the clause.
 use borrow.Author.Needs.{needs}
 use native.Mathlib.Omega.{arith}
+use mathlib.Core.Path.{_≡_, refl, sym, ap, _∙_, subst}
+use Rattle.certificate.proofs.Numbers.{flat-right, flat-left}
 use Rattle.certificate.proofs.ranges.flat_in_range.Statement.{statement}
 use Rattle.certificate.proofs.ranges.flat_in_range.Tie as tie
 
@@ -19,10 +22,12 @@ set-in-range-requires-2 : tie.Need-set-in-range-requires-2
 set-in-range-requires-2 c κs = search needs
 
 returns : tie.Need-returns
-returns c = ?
+returns c =
+    let i = c .before .before in
+    c .set-in-range2 .ensures ∙ flat-right _ _ _ _ (i .before .before .load .ensures) (sym (i .before .set-in-range .ensures) ∙ i .if1 .taken) _ (c .before .load2 .ensures)
 
 returns-2 : tie.Need-returns-2
-returns-2 c = ?
+returns-2 c = flat-left _ _ _ _ (c .before .before .load .ensures) (sym (c .before .set-in-range .ensures) ∙ c .if1 .left)
 
 pub flat-in-range-spec : {M : Type 1} → statement M
 flat-in-range-spec =

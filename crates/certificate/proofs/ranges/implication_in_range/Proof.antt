@@ -1,5 +1,8 @@
+-- The three atoms.
 use borrow.Author.Needs.{needs}
 use native.Mathlib.Omega.{arith}
+use mathlib.Core.Path.{_≡_, refl, sym, ap, _∙_, subst}
+use Rattle.certificate.proofs.Numbers.{implication-a, implication-b, implication-c}
 use Rattle.certificate.proofs.ranges.implication_in_range.Statement.{statement}
 use Rattle.certificate.proofs.ranges.implication_in_range.Tie as tie
 
@@ -25,13 +28,19 @@ atom-or-bottom-requires-2 : tie.Need-atom-or-bottom-requires-2
 atom-or-bottom-requires-2 c κs = search needs
 
 returns : tie.Need-returns
-returns c = ?
+returns c =
+    let i = c .before .before in
+    let j = i .before .before .before in
+    c .atom-or-bottom2 .ensures ∙ implication-c _ _ _ _ (j .before .byte .ensures) (j .if1 .taken) _ (i .before .before .byte2 .ensures)
+    (sym (i .before .atom-or-bottom .ensures) ∙ i .if2 .taken) _ (c .before .byte3 .ensures)
 
 returns-2 : tie.Need-returns-2
-returns-2 c = ?
+returns-2 c =
+    let j = c .before .before .before in
+    implication-b _ _ _ _ (j .before .byte .ensures) (j .if1 .taken) _ (c .before .before .byte2 .ensures) (sym (c .before .atom-or-bottom .ensures) ∙ c .if2 .left)
 
 returns-3 : tie.Need-returns-3
-returns-3 c = ?
+returns-3 c = implication-a _ _ _ _ (c .before .byte .ensures) (c .if1 .left)
 
 pub implication-in-range-spec : {M : Type 1} → statement M
 implication-in-range-spec =

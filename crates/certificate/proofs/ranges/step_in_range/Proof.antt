@@ -1,5 +1,8 @@
+-- The number and the set.
 use borrow.Author.Needs.{needs}
 use native.Mathlib.Omega.{arith}
+use mathlib.Core.Path.{_≡_, refl, sym, ap, _∙_, subst}
+use Rattle.certificate.proofs.Numbers.{step-number, step-set}
 use Rattle.certificate.proofs.ranges.step_in_range.Statement.{statement}
 use Rattle.certificate.proofs.ranges.step_in_range.Tie as tie
 
@@ -19,10 +22,10 @@ set-in-range-requires : tie.Need-set-in-range-requires
 set-in-range-requires c κs = search needs
 
 returns : tie.Need-returns
-returns c = ?
+returns c = c .set-in-range .ensures ∙ step-set _ _ _ _ _ (c .before .before .before .byte .ensures) (c .before .before .if1 .taken) _ (c .before .load .ensures)
 
 returns-2 : tie.Need-returns-2
-returns-2 c = ?
+returns-2 c = step-number _ _ _ _ _ (c .before .byte .ensures) (c .if1 .left)
 
 pub step-in-range-spec : {M : Type 1} → statement M
 step-in-range-spec =

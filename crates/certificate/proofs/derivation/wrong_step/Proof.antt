@@ -1,0 +1,41 @@
+use borrow.Author.Needs.{needs}
+use native.Mathlib.Omega.{arith}
+use Rattle.certificate.proofs.derivation.wrong_step.Statement.{statement}
+use Rattle.certificate.proofs.derivation.wrong_step.Tie as tie
+
+slice-aggregate-load-column : tie.Need-slice-aggregate-load-column
+slice-aggregate-load-column c = search needs
+
+load-column-requires : tie.Need-load-column-requires
+load-column-requires c κs = ?
+
+slice-aggregate-load-column-2 : tie.Need-slice-aggregate-load-column-2
+slice-aggregate-load-column-2 c = search needs
+
+load-column-requires-2 : tie.Need-load-column-requires-2
+load-column-requires-2 c κs = ?
+
+slice-aggregate-judge-steps : tie.Need-slice-aggregate-judge-steps
+slice-aggregate-judge-steps c = search needs
+
+slice-aggregate-judge-steps-2 : tie.Need-slice-aggregate-judge-steps-2
+slice-aggregate-judge-steps-2 c = search needs
+
+judge-steps-requires : tie.Need-judge-steps-requires
+judge-steps-requires c κs = ?
+
+returns : tie.Need-returns
+returns c = search needs
+
+pub wrong-step-spec : {M : Type 1} → statement M
+wrong-step-spec =
+    tie.close
+    (tie.spec
+    slice-aggregate-load-column
+    load-column-requires
+    slice-aggregate-load-column-2
+    load-column-requires-2
+    slice-aggregate-judge-steps
+    slice-aggregate-judge-steps-2
+    judge-steps-requires
+    returns)
