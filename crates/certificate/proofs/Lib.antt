@@ -5,3 +5,4 @@ pub mod Numbers
 pub mod Closing
 pub mod InRange
 pub mod Worlds
+pub mod FirstWrong

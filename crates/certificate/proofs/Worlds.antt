@@ -16,7 +16,9 @@ use Rattle.sat.specs.Table.{clauseAt, clauses, allHold}
 use Rattle.certificate.specs.Format.{implicationStart, goalStart, claimStart}
 use Rattle.certificate.specs.Layout.{implicationFrom, worldFrom, problemIn}
 use Rattle.certificate.specs.Judge.{worldRight}
-use Rattle.certificate.specs.Checked.{flatsIn, implicationsIn, worldsIn}
+use Rattle.certificate.specs.Checked.{flatsIn, implicationsIn, worldsIn, WorldsReady}
+use Rattle.certificate.specs.declared.Contents.{Contents}
+use Rattle.certificate.proofs.Numbers.{worlds-there}
 use Rattle.certificate.proofs.Rows.{rows-at, take-rows}
 
 -- ---- a world beyond another
@@ -70,6 +72,10 @@ all-hold-is left right m (suc k) =
     ap (λ b. b && satisfies m (clauseAt left right k)) (all-hold-is left right m k) ∙ sym (all-snoc (satisfies m) (clauses left right k) (clauseAt left right k))
 
 -- ---- one world
+
+-- The worlds end the bytes.
+pub worlds-room : (s : List ℕ) (k : Contents) (left right : List ℕ) → WorldsReady s k left right → claimStart (k .flats) (k .implications) + 8 * k .rows ≤ length s
+worlds-room s k left right r = worlds-there (length s) (k .flats) (k .implications) (k .rows) (k .refuting) (r .ranged .sized) (r .refutes)
 
 module _ (s : List ℕ) (F X R i : ℕ) (l : i < R) (m : ℕ) (em : m ≡ numberAt s (claimStart F X + 8 * i) 8) where
   abbrev W : List ℕ
