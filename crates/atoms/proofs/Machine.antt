@@ -107,3 +107,12 @@ set-row t i x h =
 pub keep-row : (t : List ℕ) (i x : ℕ) → length t ≤ i → RowSet t i x t
 unfolding rowCount
 keep-row t i x h = record { size = refl; written = λ k. absurd (omega arith); others = λ j d. refl }
+
+-- How many sets a table has room for.
+pub row-count-words : (t : List ℕ) (n : ℕ) → length t ≡ n → rowCount t ≡ n
+unfolding rowCount
+row-count-words t n e = e
+
+pub row-count-kept : (t u : List ℕ) → length t ≡ length u → rowCount t ≡ rowCount u
+unfolding rowCount
+row-count-kept t u e = e

@@ -6,3 +6,5 @@ pub mod Closing
 pub mod InRange
 pub mod Worlds
 pub mod FirstWrong
+pub mod Tables
+pub mod Learning

@@ -1,5 +1,9 @@
+-- The answer yes is none.
 use borrow.Author.Needs.{needs}
 use native.Mathlib.Omega.{arith}
+use mathlib.Core.Path.{_≡_, refl, sym, ap, _∙_, subst}
+use Rattle.ipl.specs.Search.{isNone}
+use Rattle.sat.specs.Answer.{answerOf}
 use Rattle.certificate.proofs.derivation.proves.Statement.{statement}
 use Rattle.certificate.proofs.derivation.proves.Tie as tie
 
@@ -13,10 +17,12 @@ enum-told-2 : tie.Need-enum-told-2
 enum-told-2 c = search needs
 
 returns : tie.Need-returns
-returns c = ?
+unfolding isNone
+returns c = ap (λ z. isNone (answerOf z)) (sym (c .enum-told .given .1)) ∙ ap isNone (c .before .before .ask .ensures)
 
 returns-2 : tie.Need-returns-2
-returns-2 c = ?
+unfolding isNone
+returns-2 c = ap (λ z. isNone (answerOf z)) (sym (c .enum-told2 .given .1)) ∙ ap isNone (c .before .before .ask .ensures)
 
 pub proves-spec : {M : Type 1} → statement M
 proves-spec = tie.close (tie.spec ask-requires enum-told enum-told-2 returns returns-2)
