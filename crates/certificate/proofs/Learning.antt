@@ -1,10 +1,11 @@
 -- One derivation step: what the code asks and adds is what the definition does.
 use mathlib.Core.Bool.{Bool, true, false, _&&_}
-use mathlib.Core.List.{List, [], _∷_, _++_}
+use mathlib.Core.List.{List, [], _∷_, _++_, append-nil}
 use mathlib.Core.Path.{_≡_, refl, sym, ap, ap₂, _∙_, subst}
 use Prim.Native.Nat.{ℕ, suc, _+_, _*_, _≤_, _<_, min}
 use native.Mathlib.Numerals.{add-one}
 use native.Mathlib.Omega.{arith}
+use borrow.Author.Count.{below-more}
 use lib.Dec.{T, ltb, leb, ltb→lt}
 use lib.ListN.{length, getD, take}
 use lib.Seq.{take-suc, take-all}
@@ -12,7 +13,7 @@ use Rattle.atoms.specs.Sets.{limit, minus, single}
 use Rattle.atoms.specs.Words.{singleOrEmpty, rowCount, RowSet}
 use Rattle.atoms.specs.Bytes.{numberAt}
 use Rattle.atoms.proofs.Truth.{T-left, T-right}
-use Rattle.atoms.proofs.Machine.{single-bits}
+use Rattle.atoms.proofs.Machine.{single-bits, row-count-kept}
 use Rattle.ipl.specs.Lists.{all, All}
 use Rattle.ipl.specs.Clause.{Flat, one, learned}
 use Rattle.ipl.specs.Range.{stepTable, setInRange, implicationInRange}
@@ -25,7 +26,7 @@ use Rattle.sat.specs.Table.{clauses}
 use Rattle.certificate.specs.Format.{implicationStart, goalStart, claimStart}
 use Rattle.certificate.specs.Layout.{rows, implicationFrom, stepFrom, problemIn, claimIn}
 use Rattle.certificate.specs.Judge.{stepInRange, claimInRange, stepAt, stepProves, goalProved}
-use Rattle.certificate.specs.Checked.{Ranged, StepReady, StepsReady, StepJudged, problemBy, claimBy, stepsBy}
+use Rattle.certificate.specs.Checked.{flatsIn, Ranged, StepReady, StepsReady, StepJudged, problemBy, claimBy, stepsBy}
 use Rattle.certificate.specs.declared.Contents.{Contents}
 use Rattle.certificate.proofs.Rows.{rows-length, rows-at}
 use Rattle.certificate.proofs.Numbers.{steps-there}
@@ -140,3 +141,44 @@ module _ (s : List ℕ) (k : Contents) (ranged : Ranged s k) where
             subst (λ (z : ℕ). clauses left right (k .flats + z) ≡ known (problemBy s k .flats) (problemBy s k .implications) (take z (stepsBy s k))) e loaded
             ∙ ap (known (problemBy s k .flats) (problemBy s k .implications)) (take-all (k .rows) (stepsBy s k) (omega (arith, rows-length (λ j. stepFrom s (claimStart (k .flats) (k .implications) + 9 * j)) (k .rows)))) in
         rw (known-all, ez, n-small n en) (ap (λ (z : ℕ). isNone (ask (getD s 37 0) (known (problemBy s k .flats) (problemBy s k .implications) (stepsBy s k)) 0 z)) eg)
+
+-- ---- the steps in order
+
+-- After the first i steps, which are right: the tables hold their clauses.
+pub record Progress (s : List ℕ) (k : Contents) (i : ℕ) (left0 right0 left right : List ℕ) : Type 0 where
+  pub few : i ≤ k .rows
+  pub size-left : length left ≡ length left0
+  pub size-right : length right ≡ length right0
+  pub loaded : clauses left right (k .flats + i) ≡ known (problemBy s k .flats) (problemBy s k .implications) (take i (stepsBy s k))
+  pub proved : (j : ℕ) → j < i → stepProves (problemBy s k) (stepsBy s k) j ≡ true
+
+module _ (s : List ℕ) (k : Contents) (left0 right0 : List ℕ) (ready : StepsReady s k left0 right0) where
+  pub progress-none : Progress s k 0 left0 right0 left0 right0
+  unfolding known problemIn
+  progress-none = record {
+    few = omega arith;
+    size-left = refl;
+    size-right = refl;
+    loaded = ap (clauses left0 right0) {y = k .flats} (omega arith) ∙ ready .loaded ∙ sym (append-nil (flatsIn s (k .flats)));
+    proved = λ j l. absurd (omega arith);
+  }
+
+  module _ (i : ℕ) (left right : List ℕ) (progress : Progress s k i left0 right0 left right) where
+    pub progress-ready : i < k .rows → StepReady s k i left right
+    progress-ready l = record {
+      ranged = ready .ranged;
+      derives = ready .derives;
+      listed = l;
+      room-left = omega (arith, ready .room-left, row-count-kept left left0 (progress .size-left));
+      room-right = omega (arith, ready .room-right, row-count-kept right right0 (progress .size-right));
+      loaded = progress .loaded;
+    }
+
+    pub progress-next : i < k .rows → (left2 right2 : List ℕ) (r : Bool) → StepJudged s k i left right left2 right2 r → r ≡ true → Progress s k (i + 1) left0 right0 left2 right2
+    progress-next l left2 right2 r step e = record {
+      few = omega arith;
+      size-left = step .size-left ∙ progress .size-left;
+      size-right = step .size-right ∙ progress .size-right;
+      loaded = step .loaded;
+      proved = below-more (λ j. stepProves (problemBy s k) (stepsBy s k) j ≡ true) i (progress .proved) (sym (step .judged) ∙ e);
+    }

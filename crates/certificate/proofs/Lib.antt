@@ -8,3 +8,4 @@ pub mod Worlds
 pub mod FirstWrong
 pub mod Tables
 pub mod Learning
+pub mod Judging
