@@ -6,6 +6,8 @@ use native.Mathlib.Nat.{pow-suc, pow-le-pow-right}
 use native.Mathlib.Omega.{arith}
 use lib.ListN.{length, take, drop, getD, length-take, drop-of-length-le, List·getD-eq-default}
 use lib.Seq.{getD-take, getD-drop}
+use lib.Pow.{pow-mono}
+use Rattle.atoms.specs.Sets.{limit}
 use Rattle.atoms.specs.Bytes.{value, digits, numberAt}
 
 pub length-digits : (width x : ℕ) → length (digits width x) ≡ width
@@ -63,3 +65,8 @@ fits-next width i sum b p h k l = subst (λ (e : ℕ). sum * 256 + b < 256 ^ e) 
 
 pub fits-word : (width i x : ℕ) → width ≤ 8 → x < 256 ^ (width - i) → x < 2 ^ 64
 fits-word width i x h k = omega (arith, pow-le-pow-right {n = 256} (omega arith) {i = width - i} {j = 8} (omega arith))
+
+-- A set of atoms fits its 8 bytes.
+pub set-fits : (n s : ℕ) → n ≤ limit → s < 2 ^ n → s < 256 ^ 8
+unfolding limit
+set-fits n s h k = omega (arith, pow-mono {i = n} {j = 64} h)

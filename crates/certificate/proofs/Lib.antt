@@ -9,3 +9,4 @@ pub mod FirstWrong
 pub mod Tables
 pub mod Learning
 pub mod Judging
+pub mod Encoding
