@@ -10,3 +10,4 @@ pub mod Tables
 pub mod Learning
 pub mod Judging
 pub mod Encoding
+pub mod Decoding
