@@ -11,3 +11,6 @@ pub mod Learning
 pub mod Judging
 pub mod Encoding
 pub mod Decoding
+pub mod Claims
+pub mod Acceptance
+pub mod Reached

@@ -1,0 +1,162 @@
+-- Every verdict of a book reached by calls makes a right problem and claim, so its certificate is accepted and reads back.
+use mathlib.Core.Bool.{cond, _&&_}
+use mathlib.Core.List.{List, [], _∷_}
+use mathlib.Core.Option.{Option, none, some}
+use mathlib.Core.Path.{_≡_, refl, sym, ap, subst}
+use Prim.Native.Nat.{ℕ, zero, suc, _*_, _^_, _≤_, _<_}
+use native.Mathlib.Omega.{arith}
+use lib.Dec.{T, ltb, leb, lt→ltb, le→leb}
+use lib.ListN.{length}
+use borrow.Author.Tests.{ltb-false}
+use Rattle.atoms.proofs.Truth.{T-and, true-T, by-cond}
+use Rattle.ipl.specs.Lists.{all, All}
+use Rattle.ipl.specs.Clause.{Flat, Implication}
+use Rattle.ipl.specs.Range.{stepTable, worldTable, atomOrBot, setInRange}
+use Rattle.ipl.specs.Question.{ask}
+use Rattle.ipl.specs.Search.{Step, Pair, State, Outcome, valid, refuted, refused, unfinished, Turn, done, more, begin, resolve, look, goOn, known, firstUnrealized, turn, turnWith, run, start, search}
+use Rattle.ipl.specs.Claim.{StepRight, StepsRight}
+use Rattle.ipl.specs.Book.{Book, Call, opened, answer, after}
+use Rattle.ipl.specs.Demand.{WellFormed}
+use Rattle.ipl.proofs.Lists.{All-all, All-map}
+use Rattle.ipl.proofs.Range.{implication-below}
+use Rattle.ipl.proofs.Search.{OutcomeRight, search-right}
+use Rattle.ipl.proofs.Limits.{Fits, search-fits}
+use Rattle.ipl.proofs.Book.{Reached, opened-reached, next-reached}
+use Rattle.certificate.specs.Certificate as certificate
+use Rattle.certificate.specs.Certificate.{Problem, Claim, accepted}
+use Rattle.certificate.specs.Format.{encode}
+use Rattle.certificate.specs.Judge.{stepInRange, claimInRange, inRange, judge}
+use Rattle.certificate.specs.Accepted.{Right}
+use Rattle.certificate.proofs.InRange.{range-of}
+use Rattle.certificate.proofs.Acceptance.{encode-accepted}
+
+-- ---- the worlds of a refuted question fit their table
+
+abbrev WorldsFit : Outcome → Type 0
+WorldsFit (valid s) = Unit {0}
+WorldsFit (refuted s) = length (s .worlds) ≤ worldTable
+WorldsFit (refused number) = Unit {0}
+WorldsFit unfinished = Unit {0}
+
+abbrev TurnWorldsFit : Turn → Type 0
+TurnWorldsFit (done o) = WorldsFit o
+TurnWorldsFit (more s) = Unit {0}
+
+module _ (n : ℕ) (F : List Flat) (X : List Implication) (g : ℕ) where
+  begin-worlds : (s : State) (o : Option ℕ) → TurnWorldsFit (begin s o)
+  unfolding begin
+  begin-worlds s none = tt
+  begin-worlds s (some m) = tt
+
+  resolve-worlds : (R : List Flat) (s : State) (p : Pair) (o : Option ℕ) → TurnWorldsFit (resolve n R s p o)
+  unfolding resolve
+  resolve-worlds R s p none = tt
+  resolve-worlds R s p (some m) = tt
+
+  look-worlds : (R : List Flat) (s : State) → length (s .worlds) ≤ worldTable → (o : Option Pair) → TurnWorldsFit (look n R s o)
+  unfolding look
+  look-worlds R s h none = h
+  look-worlds R s h (some p) = resolve-worlds R s p (ask n R _ _)
+
+  turn-worlds : (s : State) → length (s .worlds) ≤ worldTable → (W : List ℕ) → TurnWorldsFit (turnWith n F X g s W)
+  unfolding turnWith
+  turn-worlds s h [] = begin-worlds s (ask n (known F X (s .steps)) 0 g)
+  turn-worlds s h (w ∷ ws) = look-worlds (known F X (s .steps)) s h (firstUnrealized (w ∷ ws) X (w ∷ ws))
+
+  go-on-worlds : (rest : State → Outcome) → ((s : State) → length (s .worlds) ≤ worldTable → WorldsFit (rest s)) → (t : Turn) → TurnWorldsFit t → WorldsFit (goOn rest t)
+  unfolding goOn
+  go-on-worlds rest ih (done o) h = h
+  go-on-worlds rest ih (more s) h =
+      by-cond WorldsFit (ltb worldTable (length (s .worlds))) (refused 11) _ (λ _. tt)
+      (λ e. by-cond WorldsFit (ltb stepTable (length (s .steps))) (refused 12) (rest s) (λ _. tt) (λ _. ih s (ltb-false worldTable (length (s .worlds)) e)))
+
+  run-worlds : (turns : ℕ) (s : State) → length (s .worlds) ≤ worldTable → WorldsFit (run n F X g turns s)
+  unfolding run turn
+  run-worlds zero s h = tt
+  run-worlds (suc turns) s h = go-on-worlds (run n F X g turns) (λ t k. run-worlds turns t k) (turn n F X g s) (turn-worlds s h (s .worlds))
+
+  search-worlds : (H : List Step) → WorldsFit (search n F X g H)
+  unfolding search
+  search-worlds H = run-worlds (513 * 258) (start H) (omega arith)
+
+-- ---- right claims
+
+-- The problem of a question put to a book.
+abbrev pub problemOfBook : Book → ℕ → Problem
+problemOfBook k g = record { n = k .n; flats = k .flats; implications = k .implications; goal = g }
+
+-- The claim of a verdict: "all held steps" or the worlds.
+abbrev pub VerdictRight : Book → ℕ → Outcome → Type 0
+VerdictRight k g (valid s) = Right (problemOfBook k g) (certificate.valid (s .steps))
+VerdictRight k g (refuted s) = Right (problemOfBook k g) (certificate.refuted (s .worlds))
+VerdictRight k g (refused number) = Unit {0}
+VerdictRight k g unfinished = Unit {0}
+
+steps-in-range : (n : ℕ) (F : List Flat) (X : List Implication) (P S : List Step) → StepsRight n F X P S → All (λ s. T (stepInRange n (length X) s)) S
+unfolding stepInRange setInRange
+steps-in-range n F X P [] h = tt
+steps-in-range n F X P (s ∷ S) h = (
+  T-and (ltb (s .number) (length X)) (ltb (s .assumed) (2 ^ n)) (lt→ltb (s .number) (length X) (h .0 .number)) (lt→ltb (s .assumed) (2 ^ n) (h .0 .below)),
+  steps-in-range n F X _ S (h .1),
+)
+
+module _ (k : Book) (g : ℕ) (w : WellFormed k) (goal : T (atomOrBot (k .n) g)) where
+  ranged : (c : Claim) → T (claimInRange (k .n) (length (k .implications)) c) → T (inRange (problemOfBook k g) c)
+  ranged c t = range-of (problemOfBook k g) c (record {
+    some = w .some;
+    few = w .few;
+    flat-count = w .flat-count;
+    implication-count = w .implication-count;
+    goal = goal;
+    flats = w .flats;
+    implications = w .implications;
+    claim = t;
+  })
+
+  outcome-right : (o : Outcome) → OutcomeRight (k .n) (k .flats) (k .implications) g (k .steps) o → Fits o → WorldsFit o → VerdictRight k g o
+  unfolding claimInRange setInRange
+  outcome-right (valid s) h f v = record {
+    range = ranged (certificate.valid (s .steps)) (T-and (leb (length (s .steps)) stepTable) (all (stepInRange (k .n) (length (k .implications))) (s .steps)) (le→leb (length (s .steps)) stepTable f)
+        (All-all (stepInRange (k .n) (length (k .implications))) (s .steps) (steps-in-range (k .n) (k .flats) (k .implications) [] (s .steps) (h .derivation .steps))));
+    closings = w .closings;
+    claim = h .derivation;
+  }
+  outcome-right (refuted s) h f v = record {
+    range = ranged (certificate.refuted (s .worlds)) (T-and (leb (length (s .worlds)) worldTable) (all (setInRange (k .n)) (s .worlds)) (le→leb (length (s .worlds)) worldTable v)
+        (All-all (setInRange (k .n)) (s .worlds) (All-map (s .worlds) (λ M b. lt→ltb M (2 ^ k .n) b) (h .below))));
+    closings = w .closings;
+    claim = h .right;
+  }
+  outcome-right (refused number) h f v = tt
+  outcome-right unfinished h f v = tt
+
+-- Of every book reached, the verdict on any question.
+pub reached-right : (k : Book) → Reached k → (g : ℕ) → VerdictRight k g (answer k g)
+unfolding answer
+reached-right k r g =
+    by-cond (VerdictRight k g) (atomOrBot (k .n) g) (search (k .n) (k .flats) (k .implications) g (k .steps)) (refused 6)
+    (λ e. outcome-right k g (r .well-formed) (true-T e) (search (k .n) (k .flats) (k .implications) g (k .steps))
+    (search-right (k .n) (k .flats) (k .implications) g (k .steps) (All-map (k .implications) (implication-below (k .n)) (r .well-formed .implications)) (r .well-formed .steps) (r .witnessed))
+    (search-fits (k .n) (k .flats) (k .implications) g (k .steps) (r .well-formed .step-count))
+    (search-worlds (k .n) (k .flats) (k .implications) g (k .steps)))
+    (λ e. tt)
+
+after-reached : (cs : List Call) (k : Book) → Reached k → Reached (after k cs)
+unfolding after
+after-reached [] k r = r
+after-reached (c ∷ cs) k r = after-reached cs _ (next-reached k c r)
+
+-- "Every sheet written from a session opened by us and changed only through its calls is accepted and reads back as the problem
+-- and answer it came from": for every n, every list of calls and every question after it, valid
+pub valid-accepted : (n : ℕ) (cs : List Call) (g : ℕ) (s : State) → answer (after (opened n) cs) g ≡ valid s
+    → judge (encode (problemOfBook (after (opened n) cs) g) (certificate.valid (s .steps))) ≡ accepted (problemOfBook (after (opened n) cs) g) (certificate.valid (s .steps))
+valid-accepted n cs g s e =
+    let k = after (opened n) cs in
+    encode-accepted (problemOfBook k g) (certificate.valid (s .steps)) (subst (VerdictRight k g) e (reached-right k (after-reached cs (opened n) (opened-reached n)) g))
+
+-- or refuted.
+pub refuted-accepted : (n : ℕ) (cs : List Call) (g : ℕ) (s : State) → answer (after (opened n) cs) g ≡ refuted s
+    → judge (encode (problemOfBook (after (opened n) cs) g) (certificate.refuted (s .worlds))) ≡ accepted (problemOfBook (after (opened n) cs) g) (certificate.refuted (s .worlds))
+refuted-accepted n cs g s e =
+    let k = after (opened n) cs in
+    encode-accepted (problemOfBook k g) (certificate.refuted (s .worlds)) (subst (VerdictRight k g) e (reached-right k (after-reached cs (opened n) (opened-reached n)) g))
