@@ -1,34 +1,33 @@
 -- The checker's theorem: bytes are accepted exactly if they are those of a problem and a claim in range, with its closing clauses
 -- and by the published rules; each refusal comes exactly when its line holds and no earlier one does.
-use mathlib.Core.Bool.{Bool, true, false, cond}
+use mathlib.Core.Bool.{cond}
 use mathlib.Core.List.{List}
 use mathlib.Core.Logic.{_↔_}
 use mathlib.Core.Option.{Option, none, some}
-use mathlib.Core.Path.{_≡_, refl, sym, ap, ap₂, _∙_, subst}
-use Prim.Native.Nat.{ℕ, _+_, _*_, _^_, _≤_, _<_}
+use mathlib.Core.Path.{_≡_, refl, ap, ap₂, _∙_, subst}
+use Prim.Native.Nat.{ℕ, _^_, _≤_, _<_}
 use native.Mathlib.Omega.{arith}
 use lib.Dec.{T, leb, ltb, leb→le, ltb→lt}
 use lib.ListN.{length}
-use Rattle.atoms.specs.Sets.{limit}
 use Rattle.atoms.proofs.Truth.{T-left, T-right, T-true, true-T, by-cond}
 use Rattle.atoms.proofs.Bytes.{set-fits}
 use Rattle.atoms.proofs.Machine.{limit-small}
 use Rattle.ipl.specs.Lists.{all, All}
-use Rattle.ipl.specs.Clause.{bot, Flat, closed}
-use Rattle.ipl.specs.Range.{stepTable, worldTable, setInRange, flatInRange}
+use Rattle.ipl.specs.Clause.{closed}
+use Rattle.ipl.specs.Range.{stepTable, worldTable, setInRange}
 use Rattle.ipl.specs.Search.{Step}
 use Rattle.ipl.specs.Kripke.{Model, IsModel, forcesAtom, ForcesFlat, ForcesImplication, shown}
 use Rattle.ipl.specs.Claim.{Countermodel}
 use Rattle.ipl.proofs.Lists.{all-All, All-all, All-map}
-use Rattle.ipl.proofs.Range.{FlatBelow, flat-below, implication-below, atom-or-bot}
+use Rattle.ipl.proofs.Range.{flat-below, implication-below, atom-or-bot}
 use Rattle.ipl.proofs.Steps.{derivation-forced}
 use Rattle.ipl.proofs.PropositionTwo.{refuting-countermodel}
 use Rattle.certificate.specs.Certificate.{Problem, Claim, valid, refuted, Judgement, accepted, refused}
-use Rattle.certificate.specs.Format.{refutes, rowCount, claimStart, claimWidth, claimLeast, encode, encodedLength, bound}
+use Rattle.certificate.specs.Format.{refutes, rowCount, claimLeast, encode, encodedLength, bound}
 use Rattle.certificate.specs.Layout.{laidOut, problemOf, claimOf}
 use Rattle.certificate.specs.Judge.{stepInRange, claimInRange, inRange, allClosed, wrongPlace, judgeClaim, judgeRead, judge}
-use Rattle.certificate.specs.Accepted.{Bytes, ClaimRight, Right, Addressed, Encoded, Refusal, layout, range, closing, claim}
-use Rattle.certificate.proofs.InRange.{RangeParts, range-parts}
+use Rattle.certificate.specs.Accepted.{Bytes, ClaimRight, Right, Addressed, Refusal, layout, range, closing, claim}
+use Rattle.certificate.proofs.InRange.{range-parts}
 use Rattle.certificate.proofs.Encoding.{FlatFits, ClaimFits, encode-laid, problem-back, claim-back, encode-length}
 use Rattle.certificate.proofs.Decoding.{encode-back, addressed-back}
 use Rattle.certificate.proofs.Claims.{derivation-iff, worlds-iff}
@@ -117,8 +116,14 @@ pub encode-accepted : (p : Problem) (c : Claim) → Right p c → judge (encode 
 unfolding judge judgeRead judgeClaim
 encode-accepted p c r =
     let a = right-addressed p c r in
-    rw (encode-laid p c a, problem-back p c a (right-flats p c r), claim-back p c a (right-claim p c r), T-true (inRange p c) (r .range), T-true (allClosed p) (closed-all p .1 (r .closings)),
-        claim-iff p c (r .range) (a .some) .1 (r .claim)) refl
+    rw (
+      encode-laid p c a,
+      problem-back p c a (right-flats p c r),
+      claim-back p c a (right-claim p c r),
+      T-true (inRange p c) (r .range),
+      T-true (allClosed p) (closed-all p .1 (r .closings)),
+      claim-iff p c (r .range) (a .some) .1 (r .claim),
+    ) refl
 
 -- "A sheet, whoever made it, is accepted exactly if it keeps document 01's layout, ranges and closing clauses and its derivation
 -- steps or worlds meet the published rules."

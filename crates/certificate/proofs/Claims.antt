@@ -3,27 +3,27 @@ use mathlib.Core.Bool.{Bool, true, false, not, _&&_, cond, true≢false}
 use mathlib.Core.List.{List, [], _∷_, _++_, append-assoc}
 use mathlib.Core.Logic.{_↔_}
 use mathlib.Core.Option.{Option, none, some, orElse}
-use mathlib.Core.Path.{_≡_, refl, sym, ap, ap₂, _∙_, subst}
-use Prim.Native.Nat.{ℕ, zero, suc, _+_, _^_, _≤_, _<_, zero-le, suc-le-suc}
+use mathlib.Core.Path.{_≡_, refl, sym, ap, _∙_, subst}
+use Prim.Native.Nat.{ℕ, zero, suc, _^_, _≤_, _<_, zero-le, suc-le-suc}
 use native.Mathlib.Decide.{decLt}
 use native.Mathlib.Nat.{not-suc-le-zero, le-of-suc-le-suc}
 use native.Mathlib.Omega.{arith}
-use lib.Dec.{T, T-not, not-T, eqb, leb, ltb, eqb→eq, ltb→lt, leb→le}
-use lib.ListN.{length, getD, take, length-append, length-take, List·getD-append}
-use lib.Seq.{getD-take, take-at, getD-at, getD-append-add}
+use lib.Dec.{T, T-not, eqb, ltb, eqb→eq, ltb→lt}
+use lib.ListN.{length, getD, take, length-append, length-take}
+use lib.Seq.{getD-take, take-at, getD-at}
 use borrow.Author.Tests.{eq-eqb, ne-eqb}
 use Rattle.atoms.specs.Sets.{has, within}
-use Rattle.atoms.proofs.Truth.{T-left, T-right, T-and, T-true, T-false, true-T, false-T}
+use Rattle.atoms.proofs.Truth.{T-left, T-right, T-true, T-false, true-T, false-T}
 use Rattle.ipl.specs.Lists.{all, any, All, Distinct}
 use Rattle.ipl.specs.Clause.{satisfies, realizes}
-use Rattle.ipl.specs.Range.{stepTable, setInRange}
+use Rattle.ipl.specs.Range.{setInRange}
 use Rattle.ipl.specs.Question.{ask}
 use Rattle.ipl.specs.Search.{Step, implicationAt, known, isNone}
-use Rattle.ipl.specs.Claim.{StepRight, StepsRight, Derivation, WorldRight, Refuting, WorldsRight}
+use Rattle.ipl.specs.Claim.{StepsRight, Derivation, WorldRight, WorldsRight}
 use Rattle.ipl.proofs.Lists.{all-All, All-all, All-at, All-of, any-at, at-any}
-use Rattle.certificate.specs.Certificate.{Problem, Claim, valid, refuted}
-use Rattle.certificate.specs.Judge.{stepInRange, firstFailing, stepAt, stepProves, goalProved, worldRight, wrongPlace}
-use Rattle.certificate.proofs.FirstWrong.{first-none, first-at}
+use Rattle.certificate.specs.Certificate.{Problem, valid, refuted}
+use Rattle.certificate.specs.Judge.{stepInRange, firstFailing, stepProves, goalProved, worldRight, wrongPlace}
+use Rattle.certificate.proofs.FirstWrong.{first-none}
 
 -- ---- the first that fails
 
@@ -89,8 +89,8 @@ module _ (p : Problem) where
           (sym (here P s Q) ∙ h (length P) (omega arith) (omega (arith, length-append P (s ∷ Q))));
     },
     proved-right (P ++ (s ∷ [])) Q (ranged .1) (λ j l m.
-    subst (λ S. stepProves p S j ≡ true) (sym (append-assoc P (s ∷ []) Q))
-    (h j (omega (arith, length-append P (s ∷ []))) (subst (λ S. j < length S) (append-assoc P (s ∷ []) Q) m))),
+        subst (λ S. stepProves p S j ≡ true) (sym (append-assoc P (s ∷ []) Q))
+        (h j (omega (arith, length-append P (s ∷ []))) (subst (λ S. j < length S) (append-assoc P (s ∷ []) Q) m))),
   )
 
   right-proved : (P Q : List Step) → StepsRight (p .n) (p .flats) (p .implications) P Q → (j : ℕ) → length P ≤ j → j < length (P ++ Q) → stepProves p (P ++ Q) j ≡ true

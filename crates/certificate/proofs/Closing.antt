@@ -1,22 +1,21 @@
 -- The closing clause of an implication, as the code looks for it.
-use mathlib.Core.Bool.{Bool, true, false, _&&_, _||_}
+use mathlib.Core.Bool.{true, false}
 use mathlib.Core.List.{List}
 use mathlib.Core.Logic.{inl, inr}
-use mathlib.Core.Path.{_≡_, refl, sym, ap, ap₂, _∙_, subst}
-use Prim.Native.Nat.{ℕ, _+_, _*_, _≤_, _<_}
+use mathlib.Core.Path.{_≡_, refl, sym, ap₂, _∙_, subst}
+use Prim.Native.Nat.{ℕ, _+_}
 use native.Mathlib.Omega.{arith}
-use lib.Dec.{T, eqb, leb, ltb, leb→le, lt→ltb, ltb→lt, eqb→eq}
-use lib.ListN.{length, getD}
+use lib.Dec.{T, eqb}
+use lib.ListN.{getD}
 use borrow.Author.Tests.{eq-eqb, ne-eqb}
 use Rattle.atoms.specs.Sets.{limit}
 use Rattle.atoms.specs.Words.{singleOrEmpty}
 use Rattle.atoms.specs.Bytes.{numberAt}
-use Rattle.atoms.proofs.Truth.{T-left, T-right, T-and, T-or, T-inl, T-inr}
 use Rattle.atoms.proofs.Machine.{limit-small, single-bits, single-none}
-use Rattle.ipl.specs.Lists.{all, any}
-use Rattle.ipl.specs.Clause.{bot, one, Flat, Implication, sameFlat, closing, closed}
-use Rattle.ipl.specs.Range.{atomOrBot, implicationInRange}
-use Rattle.ipl.proofs.Range.{AtomOrBot, atom-or-bot, implication-below}
+use Rattle.ipl.specs.Lists.{any}
+use Rattle.ipl.specs.Clause.{bot, one, Flat, sameFlat, closing, closed}
+use Rattle.ipl.specs.Range.{implicationInRange}
+use Rattle.ipl.proofs.Range.{AtomOrBot, implication-below}
 use Rattle.certificate.specs.Format.{implicationStart}
 use Rattle.certificate.specs.Layout.{flatFrom, implicationFrom, problemIn}
 use Rattle.certificate.specs.Checked.{Ranged, EachWithin, problemBy, claimBy}

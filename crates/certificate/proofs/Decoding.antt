@@ -7,20 +7,16 @@ use Prim.Native.Nat.{ℕ, zero, suc, _+_, _*_, _/_, _%_, _^_, _≤_, _<_}
 use native.Mathlib.Nat.{zero-add, pow-suc}
 use native.Mathlib.Omega.{arith}
 use lib.Dec.{T}
-use lib.ListN.{length, getD, take, drop, length-take, length-drop, take-append-drop}
+use lib.ListN.{length, getD, take, drop, length-drop, take-append-drop}
 use lib.Seq.{drop-cons, drop-drop, take-add, take-all, length-take-le}
 use Rattle.atoms.specs.Bytes.{value, digits, numberAt}
 use Rattle.atoms.proofs.Truth.{true-T}
-use Rattle.ipl.specs.Lists.{All}
-use Rattle.ipl.specs.Clause.{Flat, Implication}
-use Rattle.ipl.specs.Search.{Step}
 use Rattle.ipl.proofs.Lists.{All-left, All-right}
-use Rattle.certificate.specs.Certificate.{Problem, Claim, valid, refuted}
 use Rattle.certificate.specs.Format.{each, flatRow, implicationRow, stepRow, worldRow, claimRows, refutes, rowCount, claimKind, claimWidth, implicationStart, goalStart, claimStart, entryRow, contents, bodies, encode}
-use Rattle.certificate.specs.Layout.{rows, flatFrom, implicationFrom, stepFrom, worldFrom, rowsIn, entryRight, refuting, flatCount, implicationCount, claimCount, claimLaid, laidOut, problemIn, claimIn, problemOf, claimOf}
+use Rattle.certificate.specs.Layout.{rows, flatFrom, implicationFrom, stepFrom, worldFrom, refuting, flatCount, implicationCount, claimCount, laidOut, problemIn, claimIn, problemOf, claimOf}
 use Rattle.certificate.specs.Accepted.{Bytes, Addressed, Encoded}
 use Rattle.certificate.proofs.Rows.{rows-length}
-use Rattle.certificate.proofs.Entries.{EntryParts, entry-parts, ClaimParts, claim-parts, LaidParts, laid-parts}
+use Rattle.certificate.proofs.Entries.{entry-parts, ClaimParts, claim-parts, LaidParts, laid-parts}
 use Rattle.certificate.proofs.Encoding.{encode-laid}
 
 -- ---- numbers

@@ -9,18 +9,18 @@ use lib.Dec.{T, eqb}
 use lib.ListN.{length, getD, take, drop, length-append}
 use lib.Seq.{drop-append-add, drop-drop, take-at, drop-at, getD-drop, ext-getD}
 use Rattle.atoms.specs.Bytes.{value, digits, numberAt}
-use Rattle.atoms.proofs.Truth.{true-T, T-true}
+use Rattle.atoms.proofs.Truth.{true-T}
 use Rattle.atoms.proofs.Bytes.{length-digits, value-digits}
 use Rattle.ipl.specs.Lists.{All}
 use Rattle.ipl.specs.Clause.{Flat, Implication}
 use Rattle.ipl.specs.Search.{Step}
 use Rattle.ipl.proofs.Lists.{All-at}
 use Rattle.certificate.specs.Certificate.{Problem, Claim, valid, refuted}
-use Rattle.certificate.specs.Format.{each, flatRow, implicationRow, stepRow, worldRow, claimRows, refutes, rowCount, claimKind, claimWidth, claimLeast, implicationStart, goalStart, claimStart, entryRow, contents, bodies, encode, encodedLength, bound}
+use Rattle.certificate.specs.Format.{each, flatRow, implicationRow, stepRow, worldRow, claimRows, refutes, rowCount, claimKind, claimWidth, claimLeast, implicationStart, goalStart, claimStart, entryRow, contents, bodies, encode, encodedLength}
 use Rattle.certificate.specs.Layout.{rows, flatFrom, implicationFrom, stepFrom, worldFrom, rowsIn, entryRight, refuting, flatCount, implicationCount, claimCount, claimLaid, laidOut, problemIn, claimIn, problemOf, claimOf}
 use Rattle.certificate.specs.Accepted.{Addressed}
 use Rattle.certificate.proofs.Rows.{rows-length, rows-at}
-use Rattle.certificate.proofs.Entries.{EntryParts, entry-true, ClaimParts, claim-true, LaidParts, laid-true, width-positive}
+use Rattle.certificate.proofs.Entries.{entry-true, claim-true, laid-true, width-positive}
 
 -- ---- lengths
 
@@ -218,8 +218,12 @@ module _ (p : Problem) (c : Claim) (addressed : Addressed p c) where
   bodies-length =
       ap length bodies-are
       ∙ omega (
-        arith, length-append (each flatRow (p .flats)) (each implicationRow (p .implications) ++ (p .goal ∷ claimRows c)),
-        length-append (each implicationRow (p .implications)) (p .goal ∷ claimRows c), flats-bytes, implications-bytes, length-claim c,
+        arith,
+        length-append (each flatRow (p .flats)) (each implicationRow (p .implications) ++ (p .goal ∷ claimRows c)),
+        length-append (each implicationRow (p .implications)) (p .goal ∷ claimRows c),
+        flats-bytes,
+        implications-bytes,
+        length-claim c,
       )
 
   -- What is written keeps the layout.

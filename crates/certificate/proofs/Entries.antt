@@ -2,14 +2,14 @@
 use mathlib.Core.Bool.{Bool, true, false, _&&_}
 use mathlib.Core.List.{List}
 use mathlib.Core.Path.{_≡_, refl, sym, ap, ap₂, _∙_, subst}
-use Prim.Native.Nat.{ℕ, _+_, _-_, _*_, _/_, _^_, _≤_, _<_}
+use Prim.Native.Nat.{ℕ, _+_, _-_, _*_, _/_, _≤_, _<_}
 use native.Mathlib.Nat.{mul-div-le}
 use native.Mathlib.Omega.{arith}
 use lib.Dec.{T, eqb, leb, eqb→eq, leb→le}
 use lib.ListN.{length, getD}
 use borrow.Author.Tests.{eq-eqb, le-leb}
 use Rattle.atoms.specs.Bytes.{numberAt, NumberRead}
-use Rattle.atoms.proofs.Truth.{T-left, T-right, T-and, T-true, T-false, true-T, false-T}
+use Rattle.atoms.proofs.Truth.{T-left, T-right, T-true, T-false, true-T, false-T}
 use Rattle.certificate.specs.Format.{implicationStart, goalStart, claimStart, claimKind, claimWidth, claimLeast}
 use Rattle.certificate.specs.Layout.{rowsIn, entryRight, refuting, flatCount, implicationCount, claimCount, claimLaid, laidOut}
 use Rattle.certificate.specs.Checked.{EntryFound, ClaimFound, ContentsRead}

@@ -1,8 +1,8 @@
 -- The judgement, refusal by refusal, and what must hold before the claim is judged.
-use mathlib.Core.Bool.{Bool, true, false, cond}
+use mathlib.Core.Bool.{true, false}
 use mathlib.Core.List.{List}
 use mathlib.Core.Option.{Option}
-use mathlib.Core.Path.{_≡_, refl, sym, ap, _∙_, subst}
+use mathlib.Core.Path.{_≡_, refl, ap, subst}
 use Prim.Native.Nat.{ℕ, _+_, _*_, _≤_}
 use native.Mathlib.Omega.{arith}
 use lib.Dec.{T, leb, leb→le}
@@ -12,9 +12,9 @@ use Rattle.atoms.proofs.Truth.{T-left}
 use Rattle.atoms.proofs.Machine.{row-count-words, row-count-kept}
 use Rattle.ipl.specs.Lists.{all}
 use Rattle.ipl.specs.Range.{flatTable, stepTable}
-use Rattle.certificate.specs.Certificate.{Problem, Claim, Judgement, refused}
-use Rattle.certificate.specs.Format.{claimStart, implicationStart}
-use Rattle.certificate.specs.Layout.{flatFrom, implicationFrom, stepFrom, laidOut, problemIn, claimIn, problemOf, claimOf}
+use Rattle.certificate.specs.Certificate.{Problem, Claim, refused}
+use Rattle.certificate.specs.Format.{claimStart}
+use Rattle.certificate.specs.Layout.{flatFrom, stepFrom, laidOut, problemIn, claimIn, problemOf, claimOf}
 use Rattle.certificate.specs.Judge.{stepInRange, claimInRange, inRange, allClosed, wrongPlace, judgeClaim, judgeRead, judge}
 use Rattle.certificate.specs.Checked.{problemBy, claimBy, stepsBy, ContentsRead, Ranged, ColumnLoaded, StepsReady, WorldsReady}
 use Rattle.certificate.specs.declared.Contents.{Contents}
@@ -68,10 +68,13 @@ module _ (s : List ℕ) (k : Contents) (ranged : Ranged s k) where
     unfolding claimInRange claimIn problemIn
     steps-few e =
         let t : T (claimInRange (getD s 37 0) (length (problemBy s k .implications)) (claimIn s (claimStart (k .flats) (k .implications)) false (k .rows))) =
-            subst (λ z. T (claimInRange (getD s 37 0) (length (problemBy s k .implications)) (claimIn s (claimStart (k .flats) (k .implications)) z (k .rows)))) e
-            (range-parts (problemBy s k) (claimBy s k) (ranged .ranged) .claim) in
-        omega (arith, rows-length (λ j. stepFrom s (claimStart (k .flats) (k .implications) + 9 * j)) (k .rows),
-          leb→le (length (stepsBy s k)) stepTable (T-left (leb (length (stepsBy s k)) stepTable) (all (stepInRange (getD s 37 0) (length (problemBy s k .implications))) (stepsBy s k)) t))
+        subst (λ z. T (claimInRange (getD s 37 0) (length (problemBy s k .implications)) (claimIn s (claimStart (k .flats) (k .implications)) z (k .rows)))) e
+        (range-parts (problemBy s k) (claimBy s k) (ranged .ranged) .claim) in
+        omega (
+          arith,
+          rows-length (λ j. stepFrom s (claimStart (k .flats) (k .implications) + 9 * j)) (k .rows),
+          leb→le (length (stepsBy s k)) stepTable (T-left (leb (length (stepsBy s k)) stepTable) (all (stepInRange (getD s 37 0) (length (problemBy s k .implications))) (stepsBy s k)) t),
+        )
 
     pub steps-ready : k .refuting ≡ false → length l0 ≡ 1024 → length r0 ≡ 1024 → StepsReady s k left right
     steps-ready e el er =

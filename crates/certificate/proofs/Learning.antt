@@ -1,5 +1,5 @@
 -- One derivation step: what the code asks and adds is what the definition does.
-use mathlib.Core.Bool.{Bool, true, false, _&&_}
+use mathlib.Core.Bool.{Bool, true, false}
 use mathlib.Core.List.{List, [], _∷_, _++_, append-nil}
 use mathlib.Core.Path.{_≡_, refl, sym, ap, ap₂, _∙_, subst}
 use Prim.Native.Nat.{ℕ, suc, _+_, _*_, _≤_, _<_, min}
@@ -30,7 +30,7 @@ use Rattle.certificate.specs.Checked.{flatsIn, Ranged, StepReady, StepsR
 use Rattle.certificate.specs.declared.Contents.{Contents}
 use Rattle.certificate.proofs.Rows.{rows-length, rows-at}
 use Rattle.certificate.proofs.Numbers.{steps-there}
-use Rattle.certificate.proofs.InRange.{RangeParts, range-parts, implications-below-limit}
+use Rattle.certificate.proofs.InRange.{range-parts, implications-below-limit}
 use Rattle.certificate.proofs.Closing.{one-is}
 use Rattle.certificate.proofs.Tables.{clauses-next}
 
@@ -47,9 +47,9 @@ module _ (s : List ℕ) (k : Contents) (ranged : Ranged s k) where
     unfolding claimInRange claimIn problemIn
     steps-ranged =
         let t : T (claimInRange (getD s 37 0) (k .implications) (claimIn s (claimStart (k .flats) (k .implications)) false (k .rows))) =
-            subst (λ z. T (claimInRange (getD s 37 0) (k .implications) (claimIn s (claimStart (k .flats) (k .implications)) z (k .rows)))) derives
-            (subst (λ (m : ℕ). T (claimInRange (getD s 37 0) m (claimBy s k))) (rows-length (λ j. implicationFrom s (implicationStart (k .flats) + 3 * j)) (k .implications))
-            (range-parts (problemBy s k) (claimBy s k) (ranged .ranged) .claim)) in
+        subst (λ z. T (claimInRange (getD s 37 0) (k .implications) (claimIn s (claimStart (k .flats) (k .implications)) z (k .rows)))) derives
+        (subst (λ (m : ℕ). T (claimInRange (getD s 37 0) m (claimBy s k))) (rows-length (λ j. implicationFrom s (implicationStart (k .flats) + 3 * j)) (k .implications))
+        (range-parts (problemBy s k) (claimBy s k) (ranged .ranged) .claim)) in
         all-All (stepInRange (getD s 37 0) (k .implications)) (stepsBy s k)
         (T-right (leb (length (stepsBy s k)) stepTable) (all (stepInRange (getD s 37 0) (k .implications)) (stepsBy s k)) t)
 
@@ -138,8 +138,8 @@ module _ (s : List ℕ) (k : Contents) (ranged : Ranged s k) where
     unfolding goalProved problemIn
     goal-judged i e left right loaded n g empty en eg ez =
         let known-all : clauses left right (k .flats + k .rows) ≡ known (problemBy s k .flats) (problemBy s k .implications) (stepsBy s k) =
-            subst (λ (z : ℕ). clauses left right (k .flats + z) ≡ known (problemBy s k .flats) (problemBy s k .implications) (take z (stepsBy s k))) e loaded
-            ∙ ap (known (problemBy s k .flats) (problemBy s k .implications)) (take-all (k .rows) (stepsBy s k) (omega (arith, rows-length (λ j. stepFrom s (claimStart (k .flats) (k .implications) + 9 * j)) (k .rows)))) in
+        subst (λ (z : ℕ). clauses left right (k .flats + z) ≡ known (problemBy s k .flats) (problemBy s k .implications) (take z (stepsBy s k))) e loaded
+        ∙ ap (known (problemBy s k .flats) (problemBy s k .implications)) (take-all (k .rows) (stepsBy s k) (omega (arith, rows-length (λ j. stepFrom s (claimStart (k .flats) (k .implications) + 9 * j)) (k .rows)))) in
         rw (known-all, ez, n-small n en) (ap (λ (z : ℕ). isNone (ask (getD s 37 0) (known (problemBy s k .flats) (problemBy s k .implications) (stepsBy s k)) 0 z)) eg)
 
 -- ---- the steps in order

@@ -1,12 +1,12 @@
 -- The tests of range, part by part, as the code makes them.
-use mathlib.Core.Bool.{Bool, true, false, _&&_}
+use mathlib.Core.Bool.{Bool, true, false}
 use mathlib.Core.List.{List}
-use mathlib.Core.Path.{_≡_, refl, sym, ap, ap₂, _∙_, subst}
+use mathlib.Core.Path.{_≡_, refl, ap, subst}
 use Prim.Native.Nat.{ℕ, _+_, _*_, _^_, _≤_, _<_, min}
 use native.Mathlib.Decide.{decLt}
 use native.Mathlib.Omega.{arith}
-use lib.Dec.{T, ltb, eqb, leb, ltb→lt, lt→ltb}
-use lib.ListN.{length, getD}
+use lib.Dec.{ltb, eqb, leb, ltb→lt, lt→ltb}
+use lib.ListN.{getD}
 use borrow.Author.Tests.{lt-ltb, le-ltb, le-leb, lt-leb}
 use Rattle.atoms.specs.Sets.{bitAt, limit, within}
 use Rattle.atoms.specs.Words.{below}

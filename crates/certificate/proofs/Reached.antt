@@ -1,9 +1,8 @@
 -- Every verdict of a book reached by calls makes a right problem and claim, so its certificate is accepted and reads back.
-use mathlib.Core.Bool.{cond, _&&_}
 use mathlib.Core.List.{List, [], _∷_}
 use mathlib.Core.Option.{Option, none, some}
-use mathlib.Core.Path.{_≡_, refl, sym, ap, subst}
-use Prim.Native.Nat.{ℕ, zero, suc, _*_, _^_, _≤_, _<_}
+use mathlib.Core.Path.{_≡_, subst}
+use Prim.Native.Nat.{ℕ, zero, suc, _*_, _^_, _≤_}
 use native.Mathlib.Omega.{arith}
 use lib.Dec.{T, ltb, leb, lt→ltb, le→leb}
 use lib.ListN.{length}
@@ -14,7 +13,7 @@ use Rattle.ipl.specs.Clause.{Flat, Implication}
 use Rattle.ipl.specs.Range.{stepTable, worldTable, atomOrBot, setInRange}
 use Rattle.ipl.specs.Question.{ask}
 use Rattle.ipl.specs.Search.{Step, Pair, State, Outcome, valid, refuted, refused, unfinished, Turn, done, more, begin, resolve, look, goOn, known, firstUnrealized, turn, turnWith, run, start, search}
-use Rattle.ipl.specs.Claim.{StepRight, StepsRight}
+use Rattle.ipl.specs.Claim.{StepsRight}
 use Rattle.ipl.specs.Book.{Book, Call, opened, answer, after}
 use Rattle.ipl.specs.Demand.{WellFormed}
 use Rattle.ipl.proofs.Lists.{All-all, All-map}

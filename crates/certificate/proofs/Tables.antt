@@ -1,10 +1,9 @@
 -- Tables of clauses: loaded from the bytes, and with one clause more.
 use mathlib.Core.List.{List, [], _∷_, _++_}
-use mathlib.Core.Path.{_≡_, refl, sym, ap, ap₂, _∙_, subst}
+use mathlib.Core.Path.{_≡_, refl, sym, ap, ap₂, _∙_}
 use Prim.Native.Nat.{ℕ, zero, suc, _+_, _*_, _≤_, _<_}
 use native.Mathlib.Decide.{ℕ-discrete}
 use native.Mathlib.Omega.{arith}
-use lib.ListN.{length}
 use Rattle.atoms.specs.Words.{rowOf, rowCount, RowSet}
 use Rattle.atoms.specs.Bytes.{numberAt}
 use Rattle.atoms.proofs.Machine.{row-count-kept}

@@ -1,7 +1,7 @@
 -- The tests of worlds, part by part, as the code makes them.
-use mathlib.Core.Bool.{Bool, true, false, not, _&&_, _||_}
-use mathlib.Core.List.{List, [], _∷_, _++_}
-use mathlib.Core.Path.{_≡_, refl, sym, ap, ap₂, _∙_, subst}
+use mathlib.Core.Bool.{true, false, not, _&&_}
+use mathlib.Core.List.{List}
+use mathlib.Core.Path.{_≡_, refl, sym, ap, _∙_}
 use Prim.Native.Nat.{ℕ, zero, suc, _+_, _*_, _≤_, _<_}
 use native.Mathlib.Omega.{arith}
 use lib.Dec.{eqb}
@@ -10,7 +10,7 @@ use borrow.Author.Tests.{eq-eqb, ne-eqb}
 use Rattle.atoms.specs.Sets.{has, within}
 use Rattle.atoms.specs.Bytes.{numberAt}
 use Rattle.ipl.specs.Lists.{all, any}
-use Rattle.ipl.specs.Clause.{Flat, satisfies, beyond, realizes}
+use Rattle.ipl.specs.Clause.{satisfies, beyond, realizes}
 use Rattle.ipl.proofs.Lists.{all-snoc}
 use Rattle.sat.specs.Table.{clauseAt, clauses, allHold}
 use Rattle.certificate.specs.Format.{implicationStart, goalStart, claimStart}

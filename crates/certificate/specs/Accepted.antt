@@ -1,5 +1,5 @@
 -- What acceptance and each refusal mean, as statements over the rules of `ipl`.
-use mathlib.Core.Bool.{Bool, false}
+use mathlib.Core.Bool.{false}
 use mathlib.Core.List.{List}
 use mathlib.Core.Option.{some}
 use mathlib.Core.Path.{_≡_}

@@ -7,7 +7,7 @@ use lib.Dec.{eqb, ltb, leb}
 use lib.ListN.{length, getD, take}
 use Rattle.atoms.specs.Sets.{has, within}
 use Rattle.ipl.specs.Lists.{all, any}
-use Rattle.ipl.specs.Clause.{Flat, Implication, satisfies, closed, realizes}
+use Rattle.ipl.specs.Clause.{satisfies, closed, realizes}
 use Rattle.ipl.specs.Range.{flatTable, implicationTable, stepTable, worldTable, atomOrBot, setInRange, flatInRange, implicationInRange}
 use Rattle.ipl.specs.Question.{ask}
 use Rattle.ipl.specs.Search.{Step, implicationAt, known, isNone}

@@ -5,9 +5,5 @@ ghost use lib.ListN.{getD};
 pub fn byte(bytes: &[u8], at: usize) -> u8
     ensures { λ r. ⌜ r ≡ getD (now (bytes .entry)) at 0 ⌝ }
 {
-    if at < bytes.len() {
-        bytes[at]
-    } else {
-        0
-    }
+    if at < bytes.len() { bytes[at] } else { 0 }
 }

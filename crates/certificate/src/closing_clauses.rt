@@ -48,7 +48,12 @@ fn is_closed(bytes: &[u8], count: usize, at: usize) -> bool
     if b == 255 {
         return true;
     }
-    has_flat(bytes, count, AtomSet::single(b), AtomSet::single(byte(bytes, at + 2)))
+    has_flat(
+        bytes,
+        count,
+        AtomSet::single(b),
+        AtomSet::single(byte(bytes, at + 2)),
+    )
 }
 
 // Each implication from `start` on. `all_closed` meets the ranges.

@@ -43,8 +43,19 @@ fn judge_step(bytes: &[u8], k: Contents, i: usize, left: &mut [u64], right: &mut
     let row = start + 3 * (byte(bytes, at) as usize);
     let assumed = atoms::load(bytes, at + 1);
     let last = k.flats + i;
-    let proved = proves(left, right, last, byte(bytes, 37), assumed, byte(bytes, row + 1));
-    atoms::set_row(left, last, assumed.without(AtomSet::single(byte(bytes, row))));
+    let proved = proves(
+        left,
+        right,
+        last,
+        byte(bytes, 37),
+        assumed,
+        byte(bytes, row + 1),
+    );
+    atoms::set_row(
+        left,
+        last,
+        assumed.without(AtomSet::single(byte(bytes, row))),
+    );
     atoms::set_row(right, last, AtomSet::single(byte(bytes, row + 2)));
     proved
 }
@@ -63,7 +74,14 @@ fn judge_steps(bytes: &[u8], k: Contents, left: &mut [u64], right: &mut [u64]) -
         i += 1;
     }
     let goal = byte(bytes, 38 + 16 * k.flats + 3 * k.implications);
-    if proves(left, right, k.flats + count, byte(bytes, 37), AtomSet::EMPTY, goal) {
+    if proves(
+        left,
+        right,
+        k.flats + count,
+        byte(bytes, 37),
+        AtomSet::EMPTY,
+        goal,
+    ) {
         Wrong::Nothing
     } else {
         Wrong::At(count)

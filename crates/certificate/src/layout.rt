@@ -36,14 +36,7 @@ fn claim_least(refuting: bool) -> usize
 }
 
 // The entry at `at`, of this kind and start: the rows of a width in its body after `extra` bytes.
-fn read_entry(
-    bytes: &[u8],
-    at: usize,
-    kind: u8,
-    start: usize,
-    extra: usize,
-    width: usize,
-) -> Entry
+fn read_entry(bytes: &[u8], at: usize, kind: u8, start: usize, extra: usize, width: usize) -> Entry
     requires { ⌜ (at < 37) × (0 < width) ⌝ }
     ensures { λ r. ⌜ EntryRead (now (bytes .entry)) at kind start extra width r ⌝ }
 {

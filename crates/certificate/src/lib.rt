@@ -4,12 +4,12 @@ ghost use Rattle.certificate.specs.Judge.{judge, judgeRead, wrongPlace};
 ghost use Rattle.certificate.specs.Checked.{judgementOf, problemBy, claimBy, Sized, Ranged, placeOf};
 
 mod bytes_at;
+mod closing_clauses;
+mod countermodel;
+mod derivation;
+mod flat_table;
 mod layout;
 mod ranges;
-mod closing_clauses;
-mod flat_table;
-mod derivation;
-mod countermodel;
 
 // How many rows each body has; whether the last one holds worlds or steps.
 pub struct Contents {

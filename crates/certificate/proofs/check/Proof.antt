@@ -1,7 +1,6 @@
 -- The layout, then the bodies.
 use borrow.Author.Needs.{needs}
-use native.Mathlib.Omega.{arith}
-use mathlib.Core.Path.{_≡_, refl, sym, ap, _∙_, subst}
+use mathlib.Core.Path.{ap, _∙_, subst}
 use Prim.Native.Nat.{ℕ}
 use Rattle.certificate.specs.Certificate.{refused}
 use Rattle.certificate.specs.Checked.{LayoutRead, ContentsRead}

@@ -1,8 +1,7 @@
 -- Refusal by refusal.
 use borrow.Author.Needs.{needs}
-use native.Mathlib.Omega.{arith}
 use borrow.Author.Tests.{not-true, not-false}
-use mathlib.Core.Path.{_≡_, refl, sym, ap, _∙_, subst}
+use mathlib.Core.Path.{sym, ap, _∙_}
 use Rattle.atoms.proofs.Truth.{true-T}
 use Rattle.certificate.specs.Judge.{judgeClaim}
 use Rattle.certificate.specs.Checked.{placeOf}

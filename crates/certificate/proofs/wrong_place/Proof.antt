@@ -1,7 +1,6 @@
 -- By the kind of the claim.
 use borrow.Author.Needs.{needs}
-use native.Mathlib.Omega.{arith}
-use mathlib.Core.Path.{_≡_, refl, sym, ap, _∙_, subst}
+use mathlib.Core.Path.{sym, ap, _∙_}
 use Rattle.certificate.specs.Format.{claimStart}
 use Rattle.certificate.specs.Layout.{claimIn}
 use Rattle.certificate.specs.Judge.{wrongPlace}

@@ -1,6 +1,5 @@
 -- A byte of the slice, and 0 past its end.
 use borrow.Author.Needs.{needs}
-use native.Mathlib.Omega.{arith}
 use mathlib.Core.Path.{sym}
 use lib.ListN.{List·getD-eq-default}
 use Rattle.certificate.proofs.bytes_at.byte.Statement.{statement}

@@ -1,6 +1,5 @@
 -- The implications of the bytes.
 use borrow.Author.Needs.{needs}
-use native.Mathlib.Omega.{arith}
 use Rattle.certificate.specs.Layout.{problemIn}
 use Rattle.certificate.specs.Judge.{allClosed}
 use Rattle.certificate.proofs.Closing.{each-within}

@@ -1,7 +1,6 @@
 -- With b = ⊥ none is needed; else it is looked for.
 use borrow.Author.Needs.{needs}
-use native.Mathlib.Omega.{arith}
-use mathlib.Core.Path.{_≡_, refl, sym, ap, _∙_, subst}
+use mathlib.Core.Path.{_∙_}
 use Rattle.certificate.proofs.Closing.{closed-bottom, closed-listed}
 use Rattle.certificate.proofs.closing_clauses.is_closed.Statement.{statement}
 use Rattle.certificate.proofs.closing_clauses.is_closed.Tie as tie

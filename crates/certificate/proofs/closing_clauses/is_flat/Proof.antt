@@ -1,7 +1,6 @@
 -- Both sides.
 use borrow.Author.Needs.{needs}
-use native.Mathlib.Omega.{arith}
-use mathlib.Core.Path.{_≡_, refl, sym, ap, _∙_, subst}
+use mathlib.Core.Path.{sym, _∙_}
 use Rattle.certificate.proofs.Closing.{flat-differs, flat-same}
 use Rattle.certificate.proofs.closing_clauses.is_flat.Statement.{statement}
 use Rattle.certificate.proofs.closing_clauses.is_flat.Tie as tie

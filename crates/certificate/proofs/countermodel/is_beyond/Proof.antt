@@ -1,9 +1,8 @@
 -- Test by test.
 use borrow.Author.Needs.{needs}
-use native.Mathlib.Omega.{arith}
 use borrow.Author.Tests.{not-true, not-false}
 use mathlib.Core.Bool.{not}
-use mathlib.Core.Path.{_≡_, refl, sym, ap, _∙_, subst}
+use mathlib.Core.Path.{sym, ap, _∙_}
 use Rattle.certificate.proofs.Worlds.{beyond-outside, beyond-same, beyond-without-a, beyond-by-b}
 use Rattle.certificate.proofs.countermodel.is_beyond.Statement.{statement}
 use Rattle.certificate.proofs.countermodel.is_beyond.Tie as tie

@@ -1,7 +1,6 @@
 -- An atom of the implication in m, or a world beyond.
 use borrow.Author.Needs.{needs}
-use native.Mathlib.Omega.{arith}
-use mathlib.Core.Path.{_≡_, refl, sym, ap, _∙_, subst}
+use mathlib.Core.Path.{sym, _∙_}
 use Rattle.certificate.proofs.Worlds.{realized-a, realized-b, realized-c, realized-beyond}
 use Rattle.certificate.proofs.countermodel.is_realized.Statement.{statement}
 use Rattle.certificate.proofs.countermodel.is_realized.Tie as tie

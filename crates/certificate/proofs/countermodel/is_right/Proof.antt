@@ -3,7 +3,7 @@ use borrow.Author.Needs.{needs}
 use native.Mathlib.Omega.{arith}
 use borrow.Author.Tests.{not-true, not-false}
 use mathlib.Core.Bool.{not}
-use mathlib.Core.Path.{_≡_, refl, sym, ap, _∙_, subst}
+use mathlib.Core.Path.{sym, ap, _∙_}
 use Rattle.certificate.proofs.Worlds.{worlds-room, world-listed, world-outside, world-breaks, world-unrealized, world-goal, world-later}
 use Rattle.certificate.proofs.countermodel.is_right.Statement.{statement}
 use Rattle.certificate.proofs.countermodel.is_right.Tie as tie

@@ -1,7 +1,7 @@
 -- The question and the clause of the step.
 use borrow.Author.Needs.{needs}
 use native.Mathlib.Omega.{arith}
-use mathlib.Core.Path.{_≡_, refl, sym, ap, _∙_, subst}
+use mathlib.Core.Path.{_∙_}
 use Rattle.certificate.proofs.Learning.{steps-room, number-small, step-judged, step-loaded}
 use Rattle.certificate.proofs.derivation.judge_step.Statement.{statement}
 use Rattle.certificate.proofs.derivation.judge_step.Tie as tie

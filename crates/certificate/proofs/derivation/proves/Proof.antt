@@ -1,7 +1,6 @@
 -- The answer yes is none.
 use borrow.Author.Needs.{needs}
-use native.Mathlib.Omega.{arith}
-use mathlib.Core.Path.{_≡_, refl, sym, ap, _∙_, subst}
+use mathlib.Core.Path.{sym, ap, _∙_}
 use Rattle.ipl.specs.Search.{isNone}
 use Rattle.sat.specs.Answer.{answerOf}
 use Rattle.certificate.proofs.derivation.proves.Statement.{statement}

@@ -1,7 +1,6 @@
 -- The rows passed are loaded.
 use borrow.Author.Needs.{needs}
 use native.Mathlib.Omega.{arith}
-use mathlib.Core.Path.{_≡_, refl, sym, ap, _∙_, subst}
 use Prim.Native.Nat.{_-_, _≤_}
 use Rattle.certificate.specs.Checked.{ColumnLoaded}
 use Rattle.certificate.proofs.Tables.{column-none, column-next, column-done}

@@ -1,9 +1,9 @@
 -- The last entry and the end, test by test.
 use borrow.Author.Needs.{needs}
 use native.Mathlib.Omega.{arith}
-use mathlib.Core.Path.{_≡_, refl, sym, ap, _∙_, subst}
-use Prim.Native.Nat.{ℕ, _+_, _<_}
-use Rattle.certificate.specs.Format.{claimStart, claimWidth}
+use mathlib.Core.Path.{refl, sym, subst}
+use Prim.Native.Nat.{ℕ, _<_}
+use Rattle.certificate.specs.Format.{claimStart}
 use Rattle.certificate.specs.Checked.{EntryRead, EntryFound}
 use Rattle.certificate.proofs.Entries.{width-positive, claim-missing, claim-few, claim-unended, claim-found}
 use Rattle.certificate.proofs.layout.read_claim.Statement.{statement}

@@ -1,9 +1,7 @@
 -- Each test of an entry that fails refuses it; what passes all is found.
 use borrow.Author.Needs.{needs}
 use native.Mathlib.Omega.{arith}
-use mathlib.Core.Path.{_≡_, refl, sym, ap, _∙_, subst}
-use Prim.Native.Nat.{_+_, _-_, _*_, _/_}
-use Rattle.atoms.specs.Bytes.{NumberRead}
+use mathlib.Core.Path.{sym, _∙_}
 use Rattle.certificate.proofs.Entries.{entry-false, rows-fit, entry-short, entry-uneven, entry-found}
 use Rattle.certificate.proofs.layout.read_entry.Statement.{statement}
 use Rattle.certificate.proofs.layout.read_entry.Tie as tie

@@ -1,6 +1,4 @@
 -- An atom below n, or ⊥.
-use borrow.Author.Needs.{needs}
-use native.Mathlib.Omega.{arith}
 use Rattle.certificate.proofs.Numbers.{atom-in-range, atom-past-range}
 use Rattle.certificate.proofs.ranges.atom_or_bottom.Statement.{statement}
 use Rattle.certificate.proofs.ranges.atom_or_bottom.Tie as tie

@@ -1,7 +1,6 @@
 -- Worlds or steps, by the kind of the claim.
 use borrow.Author.Needs.{needs}
-use native.Mathlib.Omega.{arith}
-use mathlib.Core.Path.{_≡_, refl, sym, ap, _∙_, subst}
+use mathlib.Core.Path.{_∙_}
 use Rattle.certificate.proofs.Numbers.{worlds-range, worlds-many, steps-range, steps-many, worlds-there, steps-there}
 use Rattle.certificate.proofs.ranges.claim_in_range.Statement.{statement}
 use Rattle.certificate.proofs.ranges.claim_in_range.Tie as tie

@@ -1,7 +1,6 @@
 -- Count by count.
 use borrow.Author.Needs.{needs}
-use native.Mathlib.Omega.{arith}
-use mathlib.Core.Path.{_≡_, refl, sym, ap, _∙_, subst}
+use mathlib.Core.Path.{sym, _∙_}
 use Rattle.certificate.proofs.Numbers.{counts-none, counts-many, counts-flats, counts-implications}
 use Rattle.certificate.proofs.ranges.counts_in_range.Statement.{statement}
 use Rattle.certificate.proofs.ranges.counts_in_range.Tie as tie

@@ -1,7 +1,6 @@
 -- The three atoms.
 use borrow.Author.Needs.{needs}
-use native.Mathlib.Omega.{arith}
-use mathlib.Core.Path.{_≡_, refl, sym, ap, _∙_, subst}
+use mathlib.Core.Path.{sym, _∙_}
 use Rattle.certificate.proofs.Numbers.{implication-a, implication-b, implication-c}
 use Rattle.certificate.proofs.ranges.implication_in_range.Statement.{statement}
 use Rattle.certificate.proofs.ranges.implication_in_range.Tie as tie

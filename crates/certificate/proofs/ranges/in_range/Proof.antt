@@ -1,8 +1,7 @@
 -- Test by test.
 use borrow.Author.Needs.{needs}
-use native.Mathlib.Omega.{arith}
 use mathlib.Core.Bool.{true}
-use mathlib.Core.Path.{_≡_, refl, sym, ap, _∙_, subst}
+use mathlib.Core.Path.{_≡_, sym, _∙_}
 use borrow.Author.Tests.{not-true, not-false}
 use Rattle.ipl.specs.Lists.{all}
 use Rattle.ipl.specs.Range.{atomOrBot, flatInRange}

@@ -1,7 +1,6 @@
 -- Within the atoms below n.
 use borrow.Author.Needs.{needs}
-use native.Mathlib.Omega.{arith}
-use mathlib.Core.Path.{_≡_, refl, sym, ap, _∙_, subst}
+use mathlib.Core.Path.{_∙_}
 use Rattle.certificate.proofs.Numbers.{set-in-range}
 use Rattle.certificate.proofs.ranges.set_in_range.Statement.{statement}
 use Rattle.certificate.proofs.ranges.set_in_range.Tie as tie

@@ -1,7 +1,6 @@
 -- The number and the set.
 use borrow.Author.Needs.{needs}
-use native.Mathlib.Omega.{arith}
-use mathlib.Core.Path.{_≡_, refl, sym, ap, _∙_, subst}
+use mathlib.Core.Path.{_∙_}
 use Rattle.certificate.proofs.Numbers.{step-number, step-set}
 use Rattle.certificate.proofs.ranges.step_in_range.Statement.{statement}
 use Rattle.certificate.proofs.ranges.step_in_range.Tie as tie
