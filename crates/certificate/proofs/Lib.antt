@@ -14,3 +14,4 @@ pub mod Decoding
 pub mod Claims
 pub mod Acceptance
 pub mod Reached
+pub mod RowsBack

@@ -1,6 +1,7 @@
 -- What the code's values say of the bytes.
 use mathlib.Core.Bool.{Bool, true, false}
 use mathlib.Core.List.{List}
+use mathlib.Core.Logic.{_⊎_}
 use mathlib.Core.Option.{Option, none, some}
 use mathlib.Core.Path.{_≡_}
 use Prim.Native.Nat.{ℕ, _+_, _*_, _^_, _≤_, _<_}
@@ -151,3 +152,13 @@ pub record WorldsReady (s : List ℕ) (k : Contents) (left right : List ℕ) : T
   pub ranged : Ranged s k
   pub refutes : k .refuting ≡ true
   pub loaded : clauses left right (k .flats) ≡ flatsIn s (k .flats)
+
+-- The contents read, or none where the layout is broken.
+pub record Unkept (s : List ℕ) (k : Contents) : Type 0 where
+  pub unlaid : laidOut s ≡ false
+  pub no-flats : k .flats ≡ 0
+  pub no-implications : k .implications ≡ 0
+  pub no-rows : k .rows ≡ 0
+
+abbrev pub Kept : List ℕ → Contents → Type 0
+Kept s k = ContentsRead s k ⊎ Unkept s k

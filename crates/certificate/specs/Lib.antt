@@ -5,3 +5,4 @@ pub mod Layout
 pub mod Judge
 pub mod Accepted
 pub mod Checked
+pub mod ReadBack

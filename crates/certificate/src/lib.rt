@@ -1,4 +1,5 @@
 // Certificates (document 01: answer sheets): read, judged, and read back.
+use atoms::AtomSet;
 ghost use mathlib.Core.Path.{_≡_};
 ghost use Rattle.certificate.specs.Judge.{judge, judgeRead, wrongPlace};
 ghost use Rattle.certificate.specs.Checked.{judgementOf, problemBy, claimBy, Sized, Ranged, placeOf};
@@ -6,6 +7,14 @@ ghost use Rattle.certificate.specs.Checked.{judgementOf, problemBy, clai
 mod bytes_at;
 mod closing_clauses;
 mod countermodel;
+mod read_back;
+
+pub use read_back::atom_count;
+pub use read_back::flat_at;
+pub use read_back::goal;
+pub use read_back::implication_at;
+pub use read_back::step_at;
+pub use read_back::world_at;
 mod derivation;
 mod flat_table;
 mod layout;
@@ -29,6 +38,25 @@ pub enum Checked {
 pub enum Wrong {
     Nothing,
     At(usize),
+}
+
+// (left, right)
+pub struct FlatRow {
+    pub left: AtomSet,
+    pub right: AtomSet,
+}
+
+// (a → b) → c
+pub struct ImplicationRow {
+    pub a: u8,
+    pub b: u8,
+    pub c: u8,
+}
+
+// The number of an implication, and A.
+pub struct StepRow {
+    pub number: u8,
+    pub assumed: AtomSet,
 }
 
 // Judges any bytes: 13, 14, 15, 16 with its place, or accepted.
