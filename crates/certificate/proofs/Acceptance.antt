@@ -5,7 +5,7 @@ use mathlib.Core.List.{List}
 use mathlib.Core.Logic.{_↔_}
 use mathlib.Core.Option.{Option, none, some}
 use mathlib.Core.Path.{_≡_, refl, ap, ap₂, _∙_, subst}
-use Prim.Native.Nat.{ℕ, _^_, _≤_, _<_}
+use Prim.Native.Nat.{ℕ, _^_, _≤_, _<_, min}
 use native.Mathlib.Omega.{arith}
 use lib.Dec.{T, leb, ltb, leb→le, ltb→lt}
 use lib.ListN.{length}
@@ -14,7 +14,7 @@ use Rattle.atoms.proofs.Bytes.{set-fits}
 use Rattle.atoms.proofs.Machine.{limit-small}
 use Rattle.ipl.specs.Lists.{all, All}
 use Rattle.ipl.specs.Clause.{closed}
-use Rattle.ipl.specs.Range.{stepTable, worldTable, setInRange}
+use Rattle.ipl.specs.Range.{flatTable, implicationTable, stepTable, worldTable, setInRange}
 use Rattle.ipl.specs.Search.{Step}
 use Rattle.ipl.specs.Kripke.{Model, IsModel, forcesAtom, ForcesFlat, ForcesImplication, shown}
 use Rattle.ipl.specs.Claim.{Countermodel}
@@ -23,7 +23,7 @@ use Rattle.ipl.proofs.Range.{flat-below, implication-below, atom-or-bot}
 use Rattle.ipl.proofs.Steps.{derivation-forced}
 use Rattle.ipl.proofs.PropositionTwo.{refuting-countermodel}
 use Rattle.certificate.specs.Certificate.{Problem, Claim, valid, refuted, Judgement, accepted, refused}
-use Rattle.certificate.specs.Format.{refutes, rowCount, claimLeast, encode, encodedLength, bound}
+use Rattle.certificate.specs.Format.{refutes, rowCount, claimLeast, encode, encodedLength, bound, longest}
 use Rattle.certificate.specs.Layout.{laidOut, problemOf, claimOf}
 use Rattle.certificate.specs.Judge.{stepInRange, claimInRange, inRange, allClosed, wrongPlace, judgeClaim, judgeRead, judge}
 use Rattle.certificate.specs.Accepted.{Bytes, ClaimRight, Right, Addressed, Refusal, layout, range, closing, claim}
@@ -187,3 +187,12 @@ length-bound p (refuted W) r =
     let few = worlds-ranged (p .n) (length (p .implications)) W (range-parts p (refuted W) (r .range) .claim) .1 in
     let e = encode-length p (refuted W) (right-addressed p (refuted W) r) in
     (e, omega (arith, e))
+
+-- The length that the code tells.
+pub length-told : (p : Problem) (c : Claim) → Right p c → length (encode p c) ≤ longest (length (p .flats)) (length (p .implications))
+unfolding longest
+length-told p c r =
+    let t = range-parts p c (r .range) in
+    let f : length (p .flats) ≡ min (length (p .flats)) flatTable = omega (arith, t .flat-count) in
+    let x : length (p .implications) ≡ min (length (p .implications)) implicationTable = omega (arith, t .implication-count) in
+    subst (λ (z : ℕ). length (encode p c) ≤ z) (ap₂ bound f x) (length-bound p c r .1)

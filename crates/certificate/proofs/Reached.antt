@@ -14,7 +14,7 @@ use Rattle.ipl.specs.Range.{stepTable, worldTable, atomOrBot, setInRange}
 use Rattle.ipl.specs.Question.{ask}
 use Rattle.ipl.specs.Search.{Step, Pair, State, Outcome, valid, refuted, refused, unfinished, Turn, done, more, begin, resolve, look, goOn, known, firstUnrealized, turn, turnWith, run, start, search}
 use Rattle.ipl.specs.Claim.{StepsRight}
-use Rattle.ipl.specs.Book.{Book, Call, opened, answer, after}
+use Rattle.ipl.specs.Book.{Book, Call, opened, answer, stepsAfter, after}
 use Rattle.ipl.specs.Demand.{WellFormed}
 use Rattle.ipl.proofs.Lists.{All-all, All-map}
 use Rattle.ipl.proofs.Range.{implication-below}
@@ -22,12 +22,13 @@ use Rattle.ipl.proofs.Search.{OutcomeRight, search-right}
 use Rattle.ipl.proofs.Limits.{Fits, search-fits}
 use Rattle.ipl.proofs.Book.{Reached, opened-reached, next-reached}
 use Rattle.certificate.specs.Certificate as certificate
-use Rattle.certificate.specs.Certificate.{Problem, Claim, accepted}
-use Rattle.certificate.specs.Format.{encode}
+use Rattle.certificate.specs.Certificate.{Claim, accepted}
+use Rattle.certificate.specs.Format.{encode, longest}
 use Rattle.certificate.specs.Judge.{stepInRange, claimInRange, inRange, judge}
+use Rattle.certificate.specs.Written.{problemOfBook, claimOfVerdict}
 use Rattle.certificate.specs.Accepted.{Right}
 use Rattle.certificate.proofs.InRange.{range-of}
-use Rattle.certificate.proofs.Acceptance.{encode-accepted}
+use Rattle.certificate.proofs.Acceptance.{encode-accepted, length-told}
 
 -- ---- the worlds of a refuted question fit their table
 
@@ -80,16 +81,10 @@ module _ (n : ℕ) (F : List Flat) (X : List Implication) (g : ℕ) where
 
 -- ---- right claims
 
--- The problem of a question put to a book.
-abbrev pub problemOfBook : Book → ℕ → Problem
-problemOfBook k g = record { n = k .n; flats = k .flats; implications = k .implications; goal = g }
-
--- The claim of a verdict: "all held steps" or the worlds.
-abbrev pub VerdictRight : Book → ℕ → Outcome → Type 0
-VerdictRight k g (valid s) = Right (problemOfBook k g) (certificate.valid (s .steps))
-VerdictRight k g (refuted s) = Right (problemOfBook k g) (certificate.refuted (s .worlds))
-VerdictRight k g (refused number) = Unit {0}
-VerdictRight k g unfinished = Unit {0}
+-- The claim of a verdict is right.
+abbrev ClaimMade : Book → ℕ → Option Claim → Type 0
+ClaimMade k g none = Unit {0}
+ClaimMade k g (some c) = Right (problemOfBook k g) c
 
 steps-in-range : (n : ℕ) (F : List Flat) (X : List Implication) (P S : List Step) → StepsRight n F X P S → All (λ s. T (stepInRange n (length X) s)) S
 unfolding stepInRange setInRange
@@ -112,8 +107,8 @@ module _ (k : Book) (g : ℕ) (w : WellFormed k) (goal : T (atomOrBot (k .n) g))
     claim = t;
   })
 
-  outcome-right : (o : Outcome) → OutcomeRight (k .n) (k .flats) (k .implications) g (k .steps) o → Fits o → WorldsFit o → VerdictRight k g o
-  unfolding claimInRange setInRange
+  outcome-right : (o : Outcome) → OutcomeRight (k .n) (k .flats) (k .implications) g (k .steps) o → Fits o → WorldsFit o → ClaimMade k g (claimOfVerdict k o)
+  unfolding claimInRange setInRange claimOfVerdict stepsAfter
   outcome-right (valid s) h f v = record {
     range = ranged (certificate.valid (s .steps)) (T-and (leb (length (s .steps)) stepTable) (all (stepInRange (k .n) (length (k .implications))) (s .steps)) (le→leb (length (s .steps)) stepTable f)
         (All-all (stepInRange (k .n) (length (k .implications))) (s .steps) (steps-in-range (k .n) (k .flats) (k .implications) [] (s .steps) (h .derivation .steps))));
@@ -130,15 +125,15 @@ module _ (k : Book) (g : ℕ) (w : WellFormed k) (goal : T (atomOrBot (k .n) g))
   outcome-right unfinished h f v = tt
 
 -- Of every book reached, the verdict on any question.
-pub reached-right : (k : Book) → Reached k → (g : ℕ) → VerdictRight k g (answer k g)
-unfolding answer
-reached-right k r g =
-    by-cond (VerdictRight k g) (atomOrBot (k .n) g) (search (k .n) (k .flats) (k .implications) g (k .steps)) (refused 6)
-    (λ e. outcome-right k g (r .well-formed) (true-T e) (search (k .n) (k .flats) (k .implications) g (k .steps))
+pub reached-right : (k : Book) → Reached k → (g : ℕ) (c : Claim) → claimOfVerdict k (answer k g) ≡ some c → Right (problemOfBook k g) c
+unfolding answer claimOfVerdict
+reached-right k r g c e = subst (ClaimMade k g) e
+    (by-cond (λ o. ClaimMade k g (claimOfVerdict k o)) (atomOrBot (k .n) g) (search (k .n) (k .flats) (k .implications) g (k .steps)) (refused 6)
+    (λ t. outcome-right k g (r .well-formed) (true-T t) (search (k .n) (k .flats) (k .implications) g (k .steps))
     (search-right (k .n) (k .flats) (k .implications) g (k .steps) (All-map (k .implications) (implication-below (k .n)) (r .well-formed .implications)) (r .well-formed .steps) (r .witnessed))
     (search-fits (k .n) (k .flats) (k .implications) g (k .steps) (r .well-formed .step-count))
     (search-worlds (k .n) (k .flats) (k .implications) g (k .steps)))
-    (λ e. tt)
+    (λ t. tt))
 
 after-reached : (cs : List Call) (k : Book) → Reached k → Reached (after k cs)
 unfolding after
@@ -146,16 +141,16 @@ after-reached [] k r = r
 after-reached (c ∷ cs) k r = after-reached cs _ (next-reached k c r)
 
 -- "Every sheet written from a session opened by us and changed only through its calls is accepted and reads back as the problem
--- and answer it came from": for every n, every list of calls and every question after it, valid
-pub valid-accepted : (n : ℕ) (cs : List Call) (g : ℕ) (s : State) → answer (after (opened n) cs) g ≡ valid s
-    → judge (encode (problemOfBook (after (opened n) cs) g) (certificate.valid (s .steps))) ≡ accepted (problemOfBook (after (opened n) cs) g) (certificate.valid (s .steps))
-valid-accepted n cs g s e =
+-- and answer it came from": for every n, every list of calls and every question after it.
+pub verdict-accepted : (n : ℕ) (cs : List Call) (g : ℕ) (c : Claim) → claimOfVerdict (after (opened n) cs) (answer (after (opened n) cs) g) ≡ some c
+    → judge (encode (problemOfBook (after (opened n) cs) g) c) ≡ accepted (problemOfBook (after (opened n) cs) g) c
+verdict-accepted n cs g c e =
     let k = after (opened n) cs in
-    encode-accepted (problemOfBook k g) (certificate.valid (s .steps)) (subst (VerdictRight k g) e (reached-right k (after-reached cs (opened n) (opened-reached n)) g))
+    encode-accepted (problemOfBook k g) c (reached-right k (after-reached cs (opened n) (opened-reached n)) g c e)
 
--- or refuted.
-pub refuted-accepted : (n : ℕ) (cs : List Call) (g : ℕ) (s : State) → answer (after (opened n) cs) g ≡ refuted s
-    → judge (encode (problemOfBook (after (opened n) cs) g) (certificate.refuted (s .worlds))) ≡ accepted (problemOfBook (after (opened n) cs) g) (certificate.refuted (s .worlds))
-refuted-accepted n cs g s e =
+-- It is no longer than the length told.
+pub verdict-length : (n : ℕ) (cs : List Call) (g : ℕ) (c : Claim) → claimOfVerdict (after (opened n) cs) (answer (after (opened n) cs) g) ≡ some c
+    → length (encode (problemOfBook (after (opened n) cs) g) c) ≤ longest (length (after (opened n) cs .flats)) (length (after (opened n) cs .implications))
+verdict-length n cs g c e =
     let k = after (opened n) cs in
-    encode-accepted (problemOfBook k g) (certificate.refuted (s .worlds)) (subst (VerdictRight k g) e (reached-right k (after-reached cs (opened n) (opened-reached n)) g))
+    length-told (problemOfBook k g) c (reached-right k (after-reached cs (opened n) (opened-reached n)) g c e)

@@ -1,15 +1,15 @@
 -- What is read back, row by row.
-use mathlib.Core.Bool.{Bool, true, false, cond, true≢false}
+use mathlib.Core.Bool.{Bool, true, false}
 use mathlib.Core.List.{List}
-use mathlib.Core.Logic.{_⊎_, inl, inr}
-use mathlib.Core.Path.{_≡_, refl, sym, ap, ap₂, _∙_, subst}
+use mathlib.Core.Logic.{inl, inr}
+use mathlib.Core.Path.{_≡_, refl, sym, ap, _∙_, subst}
 use Prim.Native.Nat.{ℕ, _+_, _*_, _≤_, _<_}
 use native.Mathlib.Omega.{arith}
 use lib.ListN.{length, getD, List·getD-eq-default}
 use Rattle.ipl.specs.Clause.{bot, Implication}
 use Rattle.certificate.specs.Format.{implicationStart, goalStart, claimStart, claimWidth}
 use Rattle.certificate.specs.Layout.{rows, flatFrom, implicationFrom, stepFrom, worldFrom, laidOut, problemIn, claimIn, problemOf, claimOf}
-use Rattle.certificate.specs.Checked.{problemBy, claimBy, ContentsRead, Unkept, Kept}
+use Rattle.certificate.specs.Checked.{problemBy, claimBy, ContentsRead, Kept}
 use Rattle.certificate.specs.ReadBack.{noFlat, noImplication, noStep, atomsRead, goalRead, flatRead, implicationRead, stepOfClaim, worldOfClaim, stepRead, worldRead}
 use Rattle.certificate.specs.declared.Contents.{Contents}
 use Rattle.certificate.proofs.Rows.{rows-length, rows-at}

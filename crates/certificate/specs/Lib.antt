@@ -3,6 +3,7 @@ pub mod Certificate
 pub mod Format
 pub mod Layout
 pub mod Judge
+pub mod Written
 pub mod Accepted
 pub mod Checked
 pub mod ReadBack

@@ -1,14 +1,12 @@
 -- What is read back of a certificate, row by row. Bytes that break the layout, and rows past the end, give an empty row.
 use mathlib.Core.Bool.{cond}
 use mathlib.Core.List.{List}
-use Prim.Native.Nat.{ℕ, min}
+use Prim.Native.Nat.{ℕ}
 use lib.ListN.{getD}
 use Rattle.atoms.specs.Words.{num}
 use Rattle.ipl.specs.Clause.{bot, Flat, Implication}
-use Rattle.ipl.specs.Range.{flatTable, implicationTable}
 use Rattle.ipl.specs.Search.{Step}
 use Rattle.certificate.specs.Certificate.{Claim, valid, refuted}
-use Rattle.certificate.specs.Format.{bound}
 use Rattle.certificate.specs.Layout.{laidOut, problemOf, claimOf}
 use Rattle.certificate.specs.declared.FlatRow.{FlatRow}
 use Rattle.certificate.specs.declared.ImplicationRow.{ImplicationRow}
@@ -60,7 +58,3 @@ stepRead s k = cond (laidOut s) (stepOfClaim (claimOf s) k) noStep
 
 unfoldable pub worldRead : List ℕ → ℕ → ℕ
 worldRead s k = cond (laidOut s) (worldOfClaim (claimOf s) k) 0
-
--- "A caller can learn beforehand a length that the sheet never exceeds"; counts past their tables count as full tables.
-unfoldable pub longest : ℕ → ℕ → ℕ
-longest F X = bound (min F flatTable) (min X implicationTable)

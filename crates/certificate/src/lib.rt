@@ -1,6 +1,8 @@
 // Certificates (document 01: answer sheets): read, judged, and read back.
 use atoms::AtomSet;
 ghost use mathlib.Core.Path.{_≡_};
+ghost use Prim.Native.Nat.{min};
+ghost use Rattle.certificate.specs.Format.{longest};
 ghost use Rattle.certificate.specs.Judge.{judge, judgeRead, wrongPlace};
 ghost use Rattle.certificate.specs.Checked.{judgementOf, problemBy, claimBy, Sized, Ranged, placeOf};
 
@@ -15,6 +17,7 @@ pub use read_back::goal;
 pub use read_back::implication_at;
 pub use read_back::step_at;
 pub use read_back::world_at;
+
 mod derivation;
 mod flat_table;
 mod layout;
@@ -96,4 +99,17 @@ fn wrong_place(bytes: &[u8], k: Contents) -> Wrong
     } else {
         derivation::wrong_step(bytes, k)
     }
+}
+
+fn at_most(x: usize, most: usize) -> usize
+    ensures { λ r. ⌜ r ≡ min x most ⌝ }
+{
+    if x < most { x } else { most }
+}
+
+// A length that no certificate with so many flat clauses and implications exceeds.
+pub fn length_bound(flats: usize, implications: usize) -> usize
+    ensures { λ r. ⌜ r ≡ longest flats implications ⌝ }
+{
+    39 + 16 * at_most(flats, 512) + 3 * at_most(implications, 128) + 4608
 }

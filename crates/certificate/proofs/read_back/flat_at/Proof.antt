@@ -1,7 +1,7 @@
 -- A row there, or past the end.
 use borrow.Author.Needs.{needs}
 use native.Mathlib.Omega.{arith}
-use mathlib.Core.Path.{_≡_, refl, sym, ap, ap₂, _∙_, subst}
+use mathlib.Core.Path.{ap₂, _∙_}
 use Rattle.atoms.proofs.Machine.{num-empty}
 use Rattle.ipl.specs.Clause.{Flat}
 use Rattle.certificate.specs.Layout.{flatFrom}

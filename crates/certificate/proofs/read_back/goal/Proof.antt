@@ -1,7 +1,7 @@
 -- The goal byte, where the layout is kept.
 use borrow.Author.Needs.{needs}
 use native.Mathlib.Omega.{arith}
-use mathlib.Core.Path.{_≡_, refl, sym, ap, ap₂, _∙_, subst}
+use mathlib.Core.Path.{subst}
 use Rattle.certificate.specs.Checked.{LayoutRead}
 use Rattle.certificate.proofs.RowsBack.{unlaid-goal, laid-goal}
 use Rattle.certificate.proofs.read_back.goal.Statement.{statement}

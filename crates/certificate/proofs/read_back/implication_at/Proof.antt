@@ -1,8 +1,7 @@
 -- A row there, or past the end.
 use borrow.Author.Needs.{needs}
 use native.Mathlib.Omega.{arith}
-use mathlib.Core.Path.{_≡_, refl, sym, ap, ap₂, _∙_, subst}
-use Rattle.certificate.specs.Layout.{implicationFrom}
+use mathlib.Core.Path.{_∙_}
 use Rattle.certificate.proofs.RowsBack.{implication-made, implication-past, implication-there, implication-fits}
 use Rattle.certificate.proofs.read_back.implication_at.Statement.{statement}
 use Rattle.certificate.proofs.read_back.implication_at.Tie as tie

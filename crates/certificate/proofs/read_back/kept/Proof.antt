@@ -1,8 +1,7 @@
 -- The contents, or none.
 use borrow.Author.Needs.{needs}
-use native.Mathlib.Omega.{arith}
 use mathlib.Core.Logic.{inl, inr}
-use mathlib.Core.Path.{_≡_, refl, sym, ap, ap₂, _∙_, subst}
+use mathlib.Core.Path.{refl, subst}
 use Rattle.certificate.specs.Checked.{LayoutRead}
 use Rattle.certificate.proofs.read_back.kept.Statement.{statement}
 use Rattle.certificate.proofs.read_back.kept.Tie as tie

@@ -2,7 +2,7 @@
 use borrow.Author.Needs.{needs}
 use native.Mathlib.Omega.{arith}
 use borrow.Author.Tests.{not-true, not-false}
-use mathlib.Core.Path.{_≡_, refl, sym, ap, ap₂, _∙_, subst}
+use mathlib.Core.Path.{ap, ap₂, _∙_}
 use Rattle.atoms.proofs.Machine.{num-empty}
 use Rattle.ipl.specs.Search.{Step}
 use Rattle.certificate.specs.Layout.{stepFrom}

@@ -1,7 +1,7 @@
 -- A world there, past the end, or of no countermodel.
 use borrow.Author.Needs.{needs}
 use native.Mathlib.Omega.{arith}
-use mathlib.Core.Path.{_≡_, refl, sym, ap, ap₂, _∙_, subst}
+use mathlib.Core.Path.{_∙_}
 use Rattle.atoms.proofs.Machine.{num-empty}
 use Rattle.certificate.proofs.RowsBack.{world-past, world-other, world-there, world-fits}
 use Rattle.certificate.proofs.read_back.world_at.Statement.{statement}
