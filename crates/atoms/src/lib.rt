@@ -3,7 +3,7 @@ ghost use mathlib.Core.Path.{_≡_};
 ghost use Prim.Native.Nat.{_^_, _<_};
 ghost use lib.Dec.{eqb, leb};
 ghost use Rattle.atoms.specs.Sets.{limit, has, union, minus, within, meets};
-ghost use Rattle.atoms.specs.Bytes.{numberAt};
+ghost use Rattle.atoms.specs.Bytes.{digits, numberAt, putAt};
 ghost use Rattle.atoms.specs.Words.{num, everyAtom, singleOrEmpty, below, HighestOrEmpty, rowOf, RowSet};
 
 pub mod little_endian;
@@ -154,4 +154,11 @@ pub fn load(bytes: &[u8], at: usize) -> AtomSet
     AtomSet {
         bits: little_endian::number(bytes, at, 8),
     }
+}
+
+// Puts a set into the 8 bytes at `at`; where they do not fit, nothing is written.
+pub fn store(buffer: &mut [u8], at: usize, s: AtomSet)
+    ensures { λ _. ⌜ now (buffer .exit) ≡ putAt (now (buffer .entry)) at (digits 8 (num s)) ⌝ }
+{
+    little_endian::put(buffer, at, 8, s.bits);
 }
