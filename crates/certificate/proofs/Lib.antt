@@ -15,3 +15,4 @@ pub mod Claims
 pub mod Acceptance
 pub mod Reached
 pub mod RowsBack
+pub mod OneEntry

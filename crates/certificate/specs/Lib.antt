@@ -7,3 +7,4 @@ pub mod Written
 pub mod Accepted
 pub mod Checked
 pub mod ReadBack
+pub mod Reading

@@ -10,6 +10,7 @@ mod bytes_at;
 mod closing_clauses;
 mod countermodel;
 mod read_back;
+pub mod reader;
 
 pub use read_back::atom_count;
 pub use read_back::flat_at;
