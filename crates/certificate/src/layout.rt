@@ -23,7 +23,7 @@ fn claim_kind(refuting: bool) -> u8
     if refuting { 5 } else { 4 }
 }
 
-pub fn claim_width(refuting: bool) -> usize
+fn claim_width(refuting: bool) -> usize
     ensures { λ r. ⌜ r ≡ claimWidth refuting ⌝ }
 {
     if refuting { 8 } else { 9 }

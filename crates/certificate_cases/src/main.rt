@@ -30,37 +30,37 @@ fn say(bytes: &[u8]) {
 }
 
 // Each byte in turn raised by one.
-fn raised(sheet: &mut [u8]) {
+fn raised(bytes: &mut [u8]) {
     io::write_all(STDOUT_FILENO, b"\nraised");
     let mut i = 0;
-    while i < sheet.len() {
-        let b = sheet[i];
-        sheet[i] = std::num::wrapping_add_u8(b, 1);
-        say(sheet);
-        sheet[i] = b;
+    while i < bytes.len() {
+        let b = bytes[i];
+        bytes[i] = std::num::wrapping_add_u8(b, 1);
+        say(bytes);
+        bytes[i] = b;
         i += 1;
     }
 }
 
 // Each byte in turn with every bit turned.
-fn turned(sheet: &mut [u8]) {
+fn turned(bytes: &mut [u8]) {
     io::write_all(STDOUT_FILENO, b"\nturned");
     let mut i = 0;
-    while i < sheet.len() {
-        let b = sheet[i];
-        sheet[i] = !b;
-        say(sheet);
-        sheet[i] = b;
+    while i < bytes.len() {
+        let b = bytes[i];
+        bytes[i] = !b;
+        say(bytes);
+        bytes[i] = b;
         i += 1;
     }
 }
 
 // Cut at every length.
-fn cut(sheet: &[u8]) {
+fn cut(bytes: &[u8]) {
     io::write_all(STDOUT_FILENO, b"\ncut");
     let mut n = 0;
-    while n < sheet.len() {
-        say(&sheet[..n]);
+    while n < bytes.len() {
+        say(&bytes[..n]);
         n += 1;
     }
 }

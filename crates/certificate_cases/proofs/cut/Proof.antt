@@ -9,10 +9,10 @@ use Rattle.certificate_cases.proofs.cut.Statement.{statement}
 use Rattle.certificate_cases.proofs.cut.Tie as tie
 
 abbrev Inv-loop : tie.InvT-loop
-Inv-loop sheet n₀ n = n ≤ length sheet
+Inv-loop bytes n₀ n = n ≤ length bytes
 
 abbrev μ-loop : tie.MeasureT-loop
-μ-loop sheet n₀ n = length sheet - n
+μ-loop bytes n₀ n = length bytes - n
 
 slice-aggregate-write-all : tie.Need-slice-aggregate-write-all Inv-loop μ-loop
 slice-aggregate-write-all c = search needs

@@ -8,10 +8,10 @@ use Rattle.certificate_cases.proofs.raised.Statement.{statement}
 use Rattle.certificate_cases.proofs.raised.Tie as tie
 
 abbrev Inv-loop : tie.InvT-loop
-Inv-loop sheet₀ i₀ sheet i = (i ≤ length sheet) × (length sheet ≡ length sheet₀)
+Inv-loop bytes₀ i₀ bytes i = (i ≤ length bytes) × (length bytes ≡ length bytes₀)
 
 abbrev μ-loop : tie.MeasureT-loop
-μ-loop sheet₀ i₀ sheet i = length sheet₀ - i
+μ-loop bytes₀ i₀ bytes i = length bytes₀ - i
 
 slice-aggregate-write-all : tie.Need-slice-aggregate-write-all Inv-loop μ-loop
 slice-aggregate-write-all c = search needs
@@ -28,14 +28,14 @@ slice-read-b c = search needs
 wrapping-add-u8-requires : tie.Need-wrapping-add-u8-requires Inv-loop μ-loop
 wrapping-add-u8-requires c κs = search needs
 
-slice-write-sheet : tie.Need-slice-write-sheet Inv-loop μ-loop
-slice-write-sheet c = search needs
+slice-write-bytes : tie.Need-slice-write-bytes Inv-loop μ-loop
+slice-write-bytes c = search needs
 
 say-requires : tie.Need-say-requires Inv-loop μ-loop
 say-requires c κs = search needs
 
-slice-write-sheet-2 : tie.Need-slice-write-sheet-2 Inv-loop μ-loop
-slice-write-sheet-2 c = search needs
+slice-write-bytes-2 : tie.Need-slice-write-bytes-2 Inv-loop μ-loop
+slice-write-bytes-2 c = search needs
 
 add-i : tie.Need-add-i Inv-loop μ-loop
 add-i c = search needs
@@ -63,9 +63,9 @@ raised-spec =
     loop-holds
     slice-read-b
     wrapping-add-u8-requires
-    slice-write-sheet
+    slice-write-bytes
     say-requires
-    slice-write-sheet-2
+    slice-write-bytes-2
     add-i
     loop-less
     loop-again
