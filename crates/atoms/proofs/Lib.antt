@@ -3,3 +3,4 @@ pub mod Truth
 pub mod Bits
 pub mod Members
 pub mod Machine
+pub mod Bytes

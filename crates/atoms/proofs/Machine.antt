@@ -113,6 +113,10 @@ pub row-count : (t : List ℕ) (k : ℕ) → length t ≡ k * words → rowCount
 unfolding rowCount words
 row-count t k e = omega (arith, e)
 
+pub row-count-words : (t : List ℕ) (k : ℕ) → length t ≡ k → rowCount t ≡ k
+unfolding words
+row-count-words t k e = row-count t k (omega (arith, e))
+
 pub same-rows : (a b : List ℕ) → length a ≡ length b → rowCount a ≡ rowCount b
 unfolding rowCount
 same-rows a b e = e

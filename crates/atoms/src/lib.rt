@@ -3,7 +3,10 @@ ghost use mathlib.Core.Path.{_≡_};
 ghost use Prim.Native.Nat.{_^_, _<_};
 ghost use lib.Dec.{eqb, leb};
 ghost use Rattle.atoms.specs.Sets.{limit, has, union, minus, within, meets};
+ghost use Rattle.atoms.specs.Bytes.{digits, numberAt, putAt};
 ghost use Rattle.atoms.specs.Words.{num, everyAtom, singleOrEmpty, below, HighestOrEmpty, rowOf, RowSet};
+
+pub mod little_endian;
 
 // Words to a set, for the sizes of tables.
 pub const WORDS: usize = 1;
@@ -145,4 +148,20 @@ pub fn set_row(table: &mut [u64], i: usize, s: AtomSet)
     if i < table.len() {
         table[i] = s.bits;
     }
+}
+
+// The set in the 8 bytes at `at`.
+pub fn load(bytes: &[u8], at: usize) -> AtomSet
+    ensures { λ r. ⌜ num r ≡ numberAt (now (bytes .entry)) at 8 ⌝ }
+{
+    AtomSet {
+        bits: little_endian::number(bytes, at, 8),
+    }
+}
+
+// Puts a set into the 8 bytes at `at`; where they do not fit, nothing is written.
+pub fn store(buffer: &mut [u8], at: usize, s: AtomSet)
+    ensures { λ _. ⌜ now (buffer .exit) ≡ putAt (now (buffer .entry)) at (digits 8 (num s)) ⌝ }
+{
+    little_endian::put(buffer, at, 8, s.bits);
 }

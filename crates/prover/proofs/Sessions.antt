@@ -8,8 +8,7 @@ use native.Mathlib.Omega.{arith}
 use lib.Dec.{T, leb, ltb, leb→le, ltb→lt}
 use lib.ListN.{length}
 use Rattle.atoms.specs.Sets.{limit}
-use Rattle.atoms.specs.Words.{words, rowCount}
-use Rattle.atoms.proofs.Machine.{row-count}
+use Rattle.atoms.proofs.Machine.{row-count-words}
 use Rattle.atoms.proofs.Truth.{T-left, T-right, T-and, T-true, true-T}
 use Rattle.ipl.specs.Lists.{all}
 use Rattle.ipl.specs.Range.{flatTable, implicationTable, stepTable, setInRange, flatInRange, implicationInRange}
@@ -106,15 +105,11 @@ module _ (s : Session) where
         (All-tabulate (λ t. T (stepInRange (s .n) (s .implications .count) t)) (stepRow (s .steps)) (s .steps .count) .0
         (all-All (stepInRange (s .n) (s .implications .count)) (stepsOf (s .steps)) (steps-count .1)) k h))
 
-    rows-of : (t : List ℕ) (k : ℕ) → length t ≡ k → rowCount t ≡ k
-    unfolding words
-    rows-of t k e = row-count t k (omega (arith, e))
-
     pub steps-fit : (left right : List ℕ) → length left ≡ 1024 → length right ≡ 1024 → StepsFit left right (s .flats .count) (s .steps) (s .implications)
     steps-fit left right l r = record {
       flats-room = few-flats;
-      left-room = omega (arith, few-flats, steps-count .0, rows-of left 1024 l);
-      right-room = omega (arith, few-flats, steps-count .0, rows-of right 1024 r);
+      left-room = omega (arith, few-flats, steps-count .0, row-count-words left 1024 l);
+      right-room = omega (arith, few-flats, steps-count .0, row-count-words right 1024 r);
       count = steps-count .0;
       implications = usable .count;
       numbers = number-below;
@@ -127,11 +122,11 @@ module _ (s : Session) where
         (record { flats = s .flats .count; steps = s .steps .count; worlds = 0; questions = 0; pair = record { world = 0; implication = 0 } })
     fresh left right left2 right2 sets l r ln la ls k = record {
       working = record {
-        left-rows = rows-of left2 1024 (k .left-size ∙ l);
-        right-rows = rows-of right2 1024 (k .right-size ∙ r);
+        left-rows = row-count-words left2 1024 (k .left-size ∙ l);
+        right-rows = row-count-words right2 1024 (k .right-size ∙ r);
         numbers-size = ln;
-        assumed-rows = rows-of (s .steps .assumed) 512 la;
-        set-rows = rows-of sets 256 ls;
+        assumed-rows = row-count-words (s .steps .assumed) 512 la;
+        set-rows = row-count-words sets 256 ls;
         few-flats = few-flats;
         few-steps = steps-count .0;
         few-worlds = zero-le;

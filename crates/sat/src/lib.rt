@@ -12,6 +12,8 @@ mod known;
 mod propagation;
 mod search;
 
+pub use propagation::all_hold;
+
 // What is known of a model: atoms that it has, and atoms that it lacks.
 pub struct Partial {
     pub has: AtomSet,

@@ -1,0 +1,102 @@
+-- What a problem and a claim in range have, part by part.
+use mathlib.Core.Bool.{Bool, true, _&&_}
+use mathlib.Core.Logic.{inl, inr}
+use mathlib.Core.Path.{_≡_}
+use Prim.Native.Nat.{ℕ, _≤_}
+use native.Mathlib.Omega.{arith}
+use lib.Dec.{T, eqb, leb, ltb, leb→le, le→leb, lt→ltb}
+use lib.ListN.{length}
+use borrow.Author.Tests.{eq-eqb}
+use Rattle.atoms.specs.Sets.{limit}
+use Rattle.atoms.proofs.Truth.{T-left, T-right, T-and, T-inl, T-inr, T-true, true-T}
+use Rattle.ipl.specs.Lists.{all, All}
+use Rattle.ipl.specs.Clause.{bot, Implication}
+use Rattle.ipl.specs.Range.{flatTable, implicationTable, atomOrBot, flatInRange, implicationInRange}
+use Rattle.ipl.specs.Book.{countInRange}
+use Rattle.ipl.proofs.Lists.{all-All, All-all, All-map}
+use Rattle.ipl.proofs.Range.{AtomOrBot, implication-below}
+use Rattle.certificate.specs.Certificate.{Problem, Claim}
+use Rattle.certificate.specs.Judge.{claimInRange, countsInRange, inRange}
+
+pub record RangeParts (p : Problem) (c : Claim) : Type 0 where
+  pub some : 1 ≤ p .n
+  pub few : p .n ≤ limit
+  pub flat-count : length (p .flats) ≤ flatTable
+  pub implication-count : length (p .implications) ≤ implicationTable
+  pub goal : T (atomOrBot (p .n) (p .goal))
+  pub flats : All (λ f. T (flatInRange (p .n) f)) (p .flats)
+  pub implications : All (λ i. T (implicationInRange (p .n) i)) (p .implications)
+  pub claim : T (claimInRange (p .n) (length (p .implications)) c)
+
+module _ (p : Problem) (c : Claim) where
+  abbrev counts : Bool
+  counts = countsInRange (p .n) (length (p .flats)) (length (p .implications))
+
+  abbrev goalTest : Bool
+  goalTest = atomOrBot (p .n) (p .goal)
+
+  abbrev flatTest : Bool
+  flatTest = all (flatInRange (p .n)) (p .flats)
+
+  abbrev implicationTest : Bool
+  implicationTest = all (implicationInRange (p .n)) (p .implications)
+
+  abbrev claimTest : Bool
+  claimTest = claimInRange (p .n) (length (p .implications)) c
+
+  pub range-parts : T (inRange p c) → RangeParts p c
+  unfolding inRange countsInRange countInRange
+  range-parts t =
+      let upTo4 = T-left (counts && goalTest && flatTest && implicationTest) claimTest t in
+      let upTo3 = T-left (counts && goalTest && flatTest) implicationTest upTo4 in
+      let upTo2 = T-left (counts && goalTest) flatTest upTo3 in
+      let held = T-left counts goalTest upTo2 in
+      let F = leb (length (p .flats)) flatTable in
+      let X = leb (length (p .implications)) implicationTable in
+      let nF = T-left (countInRange (p .n) && F) X held in
+      let n = T-left (countInRange (p .n)) F nF in
+      record {
+        some = leb→le 1 (p .n) (T-left (leb 1 (p .n)) (leb (p .n) limit) n);
+        few = leb→le (p .n) limit (T-right (leb 1 (p .n)) (leb (p .n) limit) n);
+        flat-count = leb→le (length (p .flats)) flatTable (T-right (countInRange (p .n)) F nF);
+        implication-count = leb→le (length (p .implications)) implicationTable (T-right (countInRange (p .n) && F) X held);
+        goal = T-right counts goalTest upTo2;
+        flats = all-All (flatInRange (p .n)) (p .flats) (T-right (counts && goalTest) flatTest upTo3);
+        implications = all-All (implicationInRange (p .n)) (p .implications) (T-right (counts && goalTest && flatTest) implicationTest upTo4);
+        claim = T-right (counts && goalTest && flatTest && implicationTest) claimTest t;
+      }
+
+  pub range-of : RangeParts p c → T (inRange p c)
+  unfolding inRange countsInRange countInRange
+  range-of r =
+      let F = leb (length (p .flats)) flatTable in
+      let X = leb (length (p .implications)) implicationTable in
+      let n = T-and (leb 1 (p .n)) (leb (p .n) limit) (le→leb 1 (p .n) (r .some)) (le→leb (p .n) limit (r .few)) in
+      let nF = T-and (countInRange (p .n)) F n (le→leb (length (p .flats)) flatTable (r .flat-count)) in
+      let held = T-and (countInRange (p .n) && F) X nF (le→leb (length (p .implications)) implicationTable (r .implication-count)) in
+      T-and (counts && goalTest && flatTest && implicationTest) claimTest
+      (T-and (counts && goalTest && flatTest) implicationTest
+      (T-and (counts && goalTest) flatTest (T-and counts goalTest held (r .goal)) (All-all (flatInRange (p .n)) (p .flats) (r .flats)))
+      (All-all (implicationInRange (p .n)) (p .implications) (r .implications)))
+      (r .claim)
+
+-- ---- in range over more atoms
+
+wider-atom : (n m x : ℕ) → n ≤ m → AtomOrBot n x → T (atomOrBot m x)
+unfolding atomOrBot
+wider-atom n m x h (inl l) = T-inl (ltb x m) (eqb x bot) (lt→ltb x m (omega arith))
+wider-atom n m x h (inr e) = T-inr (ltb x m) (eqb x bot) (true-T (eq-eqb x bot e))
+
+wider-implication : (n m : ℕ) → n ≤ m → (i : Implication) → T (implicationInRange n i) → T (implicationInRange m i)
+unfolding implicationInRange
+wider-implication n m h i t =
+    let r = implication-below n i t in
+    T-and (ltb (i .a) m && atomOrBot m (i .b)) (atomOrBot m (i .c))
+    (T-and (ltb (i .a) m) (atomOrBot m (i .b)) (lt→ltb (i .a) m (omega (arith, r .a))) (wider-atom n m (i .b) h (r .b)))
+    (wider-atom n m (i .c) h (r .c))
+
+pub implications-below-limit : (p : Problem) (c : Claim) → T (inRange p c) → all (implicationInRange limit) (p .implications) ≡ true
+implications-below-limit p c t =
+    let r = range-parts p c t in
+    T-true (all (implicationInRange limit) (p .implications))
+    (All-all (implicationInRange limit) (p .implications) (All-map (p .implications) (wider-implication (p .n) limit (r .few)) (r .implications)))

@@ -1,0 +1,87 @@
+-- The judgement, refusal by refusal, and what must hold before the claim is judged.
+use mathlib.Core.Bool.{true, false}
+use mathlib.Core.List.{List}
+use mathlib.Core.Option.{Option}
+use mathlib.Core.Path.{_≡_, refl, ap, subst}
+use Prim.Native.Nat.{ℕ, _+_, _*_, _≤_}
+use native.Mathlib.Omega.{arith}
+use lib.Dec.{T, leb, leb→le}
+use lib.ListN.{length, getD}
+use Rattle.atoms.specs.Words.{rowCount}
+use Rattle.atoms.proofs.Truth.{T-left}
+use Rattle.atoms.proofs.Machine.{row-count-words, same-rows}
+use Rattle.ipl.specs.Lists.{all}
+use Rattle.ipl.specs.Range.{flatTable, stepTable}
+use Rattle.certificate.specs.Certificate.{Problem, Claim, refused}
+use Rattle.certificate.specs.Format.{claimStart}
+use Rattle.certificate.specs.Layout.{flatFrom, stepFrom, laidOut, problemIn, claimIn, problemOf, claimOf}
+use Rattle.certificate.specs.Judge.{stepInRange, claimInRange, inRange, allClosed, wrongPlace, judgeClaim, judgeRead, judge}
+use Rattle.certificate.specs.Checked.{problemBy, claimBy, stepsBy, ContentsRead, Ranged, ColumnLoaded, StepsReady, WorldsReady}
+use Rattle.certificate.specs.declared.Contents.{Contents}
+use Rattle.certificate.proofs.Rows.{rows-length}
+use Rattle.certificate.proofs.InRange.{range-parts}
+use Rattle.certificate.proofs.Tables.{columns-loaded}
+
+-- ---- the refusals in order
+
+pub unlaid : (s : List ℕ) → laidOut s ≡ false → refused 13 0 ≡ judge s
+unfolding judge
+unlaid s e = rw e refl
+
+pub laid : (s : List ℕ) (k : Contents) → ContentsRead s k → judgeRead (problemBy s k) (claimBy s k) ≡ judge s
+unfolding judge problemOf claimOf
+laid s k r = rw (r .laid) (ap (λ (z : Contents). judgeRead (problemBy s z) (claimBy s z)) (r .contents-are))
+
+module _ (p : Problem) (c : Claim) where
+  pub unranged : inRange p c ≡ false → refused 14 0 ≡ judgeRead p c
+  unfolding judgeRead
+  unranged e = rw e refl
+
+  module _ (range : inRange p c ≡ true) where
+    pub unclosed : allClosed p ≡ false → refused 15 0 ≡ judgeRead p c
+    unfolding judgeRead
+    unclosed e = rw (range, e) refl
+
+    pub claimed : allClosed p ≡ true → (o : Option ℕ) → o ≡ wrongPlace p c → judgeClaim p c o ≡ judgeRead p c
+    unfolding judgeRead
+    claimed e o w = rw (range, e, ← w) refl
+
+-- ---- the tables before the claim is judged
+
+module _ (s : List ℕ) (k : Contents) (ranged : Ranged s k) where
+  flats-few : k .flats ≤ flatTable
+  unfolding problemIn
+  flats-few = omega (arith, rows-length (λ j. flatFrom s (38 + 16 * j)) (k .flats), range-parts (problemBy s k) (claimBy s k) (ranged .ranged) .flat-count)
+
+  -- A table of this many words has a row for each flat clause.
+  pub flats-fit : (t : List ℕ) (words : ℕ) → length t ≡ words → flatTable ≤ words → k .flats ≤ rowCount t
+  flats-fit t words e h = omega (arith, row-count-words t words e, flats-few)
+
+  pub column-there : (start : ℕ) → start ≤ 54 → start + 16 * k .flats ≤ length s + 16
+  column-there start h = omega (arith, ranged .sized)
+
+  module _ (l0 left r0 right : List ℕ) (l : ColumnLoaded s 38 (k .flats) l0 left) (r : ColumnLoaded s 46 (k .flats) r0 right) where
+    pub worlds-ready : k .refuting ≡ true → WorldsReady s k left right
+    worlds-ready e = record { ranged = ranged; refutes = e; loaded = columns-loaded s (k .flats) l0 left r0 right l r }
+
+    steps-few : k .refuting ≡ false → k .rows ≤ stepTable
+    unfolding claimInRange claimIn problemIn
+    steps-few e =
+        let t : T (claimInRange (getD s 37 0) (length (problemBy s k .implications)) (claimIn s (claimStart (k .flats) (k .implications)) false (k .rows))) =
+        subst (λ z. T (claimInRange (getD s 37 0) (length (problemBy s k .implications)) (claimIn s (claimStart (k .flats) (k .implications)) z (k .rows)))) e
+        (range-parts (problemBy s k) (claimBy s k) (ranged .ranged) .claim) in
+        omega (
+          arith,
+          rows-length (λ j. stepFrom s (claimStart (k .flats) (k .implications) + 9 * j)) (k .rows),
+          leb→le (length (stepsBy s k)) stepTable (T-left (leb (length (stepsBy s k)) stepTable) (all (stepInRange (getD s 37 0) (length (problemBy s k .implications))) (stepsBy s k)) t),
+        )
+
+    pub steps-ready : k .refuting ≡ false → length l0 ≡ 1024 → length r0 ≡ 1024 → StepsReady s k left right
+    steps-ready e el er =
+        let few = steps-few e in record {
+          ranged = ranged;
+          derives = e;
+          room-left = omega (arith, flats-few, same-rows left l0 (l .size), row-count-words l0 1024 el);
+          room-right = omega (arith, flats-few, same-rows right r0 (r .size), row-count-words r0 1024 er);
+          loaded = columns-loaded s (k .flats) l0 left r0 right l r;
+        }

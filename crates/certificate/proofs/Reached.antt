@@ -1,0 +1,103 @@
+-- Every verdict of a book reached by calls makes a right problem and claim, so its certificate is accepted and reads back.
+use mathlib.Core.List.{List, [], _∷_}
+use mathlib.Core.Option.{Option, none, some}
+use mathlib.Core.Path.{_≡_, subst}
+use Prim.Native.Nat.{ℕ, _^_, _≤_}
+use lib.Dec.{T, ltb, leb, lt→ltb, le→leb}
+use lib.ListN.{length}
+use Rattle.atoms.proofs.Truth.{T-and, true-T, by-cond}
+use Rattle.ipl.specs.Lists.{all, All}
+use Rattle.ipl.specs.Clause.{Flat, Implication}
+use Rattle.ipl.specs.Range.{stepTable, worldTable, atomOrBot, setInRange}
+use Rattle.ipl.specs.Search.{Step, Outcome, valid, refuted, refused, unfinished, search}
+use Rattle.ipl.specs.Claim.{StepsRight}
+use Rattle.ipl.specs.Book.{Book, Call, opened, answer, stepsAfter, after}
+use Rattle.ipl.specs.Demand.{WellFormed}
+use Rattle.ipl.proofs.Lists.{All-all, All-map}
+use Rattle.ipl.proofs.Range.{implication-below}
+use Rattle.ipl.proofs.Search.{OutcomeRight, search-right}
+use Rattle.ipl.proofs.Limits.{Fits, search-fits}
+use Rattle.ipl.proofs.Book.{Reached, opened-reached, next-reached}
+use Rattle.certificate.specs.Certificate as certificate
+use Rattle.certificate.specs.Certificate.{Claim, accepted}
+use Rattle.certificate.specs.Format.{encode, longest}
+use Rattle.certificate.specs.Judge.{stepInRange, claimInRange, inRange, judge}
+use Rattle.certificate.specs.Written.{problemOfBook, claimOfVerdict}
+use Rattle.certificate.specs.Accepted.{Right}
+use Rattle.certificate.proofs.InRange.{range-of}
+use Rattle.certificate.proofs.Acceptance.{encode-accepted, length-told}
+
+-- ---- right claims
+
+-- The claim of a verdict is right.
+abbrev ClaimMade : Book → ℕ → Option Claim → Type 0
+ClaimMade k g none = Unit {0}
+ClaimMade k g (some c) = Right (problemOfBook k g) c
+
+steps-in-range : (n : ℕ) (F : List Flat) (X : List Implication) (P S : List Step) → StepsRight n F X P S → All (λ s. T (stepInRange n (length X) s)) S
+unfolding stepInRange setInRange
+steps-in-range n F X P [] h = tt
+steps-in-range n F X P (s ∷ S) h = (
+  T-and (ltb (s .number) (length X)) (ltb (s .assumed) (2 ^ n)) (lt→ltb (s .number) (length X) (h .0 .number)) (lt→ltb (s .assumed) (2 ^ n) (h .0 .below)),
+  steps-in-range n F X _ S (h .1),
+)
+
+module _ (k : Book) (g : ℕ) (w : WellFormed k) (goal : T (atomOrBot (k .n) g)) where
+  ranged : (c : Claim) → T (claimInRange (k .n) (length (k .implications)) c) → T (inRange (problemOfBook k g) c)
+  ranged c t = range-of (problemOfBook k g) c (record {
+    some = w .some;
+    few = w .few;
+    flat-count = w .flat-count;
+    implication-count = w .implication-count;
+    goal = goal;
+    flats = w .flats;
+    implications = w .implications;
+    claim = t;
+  })
+
+  outcome-right : (o : Outcome) → OutcomeRight (k .n) (k .flats) (k .implications) g (k .steps) o → Fits o → ClaimMade k g (claimOfVerdict k o)
+  unfolding claimInRange setInRange claimOfVerdict stepsAfter
+  outcome-right (valid s) h f = record {
+    range = ranged (certificate.valid (s .steps)) (T-and (leb (length (s .steps)) stepTable) (all (stepInRange (k .n) (length (k .implications))) (s .steps)) (le→leb (length (s .steps)) stepTable (f .0))
+        (All-all (stepInRange (k .n) (length (k .implications))) (s .steps) (steps-in-range (k .n) (k .flats) (k .implications) [] (s .steps) (h .derivation .steps))));
+    closings = w .closings;
+    claim = h .derivation;
+  }
+  outcome-right (refuted s) h f = record {
+    range = ranged (certificate.refuted (s .worlds)) (T-and (leb (length (s .worlds)) worldTable) (all (setInRange (k .n)) (s .worlds)) (le→leb (length (s .worlds)) worldTable (f .0))
+        (All-all (setInRange (k .n)) (s .worlds) (All-map (s .worlds) (λ M b. lt→ltb M (2 ^ k .n) b) (h .below))));
+    closings = w .closings;
+    claim = h .right;
+  }
+  outcome-right (refused number) h f = tt
+  outcome-right unfinished h f = tt
+
+-- Of every book reached, the verdict on any question.
+pub reached-right : (k : Book) → Reached k → (g : ℕ) (c : Claim) → claimOfVerdict k (answer k g) ≡ some c → Right (problemOfBook k g) c
+unfolding answer claimOfVerdict
+reached-right k r g c e = subst (ClaimMade k g) e
+    (by-cond (λ o. ClaimMade k g (claimOfVerdict k o)) (atomOrBot (k .n) g) (search (k .n) (k .flats) (k .implications) g (k .steps)) (refused 6)
+    (λ t. outcome-right k g (r .well-formed) (true-T t) (search (k .n) (k .flats) (k .implications) g (k .steps))
+    (search-right (k .n) (k .flats) (k .implications) g (k .steps) (All-map (k .implications) (implication-below (k .n)) (r .well-formed .implications)) (r .well-formed .steps) (r .witnessed))
+    (search-fits (k .n) (k .flats) (k .implications) g (k .steps) (r .well-formed .step-count)))
+    (λ t. tt))
+
+after-reached : (cs : List Call) (k : Book) → Reached k → Reached (after k cs)
+unfolding after
+after-reached [] k r = r
+after-reached (c ∷ cs) k r = after-reached cs _ (next-reached k c r)
+
+-- "Every sheet written from a session opened by us and changed only through its calls is accepted and reads back as the problem
+-- and answer it came from": for every n, every list of calls and every question after it.
+pub verdict-accepted : (n : ℕ) (cs : List Call) (g : ℕ) (c : Claim) → claimOfVerdict (after (opened n) cs) (answer (after (opened n) cs) g) ≡ some c
+    → judge (encode (problemOfBook (after (opened n) cs) g) c) ≡ accepted (problemOfBook (after (opened n) cs) g) c
+verdict-accepted n cs g c e =
+    let k = after (opened n) cs in
+    encode-accepted (problemOfBook k g) c (reached-right k (after-reached cs (opened n) (opened-reached n)) g c e)
+
+-- It is no longer than the length told.
+pub verdict-length : (n : ℕ) (cs : List Call) (g : ℕ) (c : Claim) → claimOfVerdict (after (opened n) cs) (answer (after (opened n) cs) g) ≡ some c
+    → length (encode (problemOfBook (after (opened n) cs) g) c) ≤ longest (length (after (opened n) cs .flats)) (length (after (opened n) cs .implications))
+verdict-length n cs g c e =
+    let k = after (opened n) cs in
+    length-told (problemOfBook k g) c (reached-right k (after-reached cs (opened n) (opened-reached n)) g c e)

@@ -1,0 +1,38 @@
+-- The layout, then the bodies.
+use borrow.Author.Needs.{needs}
+use mathlib.Core.Path.{ap, _∙_, subst}
+use Prim.Native.Nat.{ℕ}
+use Rattle.certificate.specs.Certificate.{refused}
+use Rattle.certificate.specs.Checked.{LayoutRead, ContentsRead}
+use Rattle.certificate.proofs.Judging.{unlaid, laid}
+use Rattle.certificate.proofs.check.Statement.{statement}
+use Rattle.certificate.proofs.check.Tie as tie
+
+-- The contents, where the layout is kept.
+found : (c : tie.After-k) → ContentsRead (c .before .before .before .before .args .bytes .now) (c .k .given .0 .0)
+found c = subst (LayoutRead _) (c .k .given .1) (c .before .before .read .ensures)
+
+read-requires : tie.Need-read-requires
+read-requires c κs = search needs
+
+enum-known-k : tie.Need-enum-known-k
+enum-known-k c = search needs
+
+check-bodies-requires : tie.Need-check-bodies-requires
+check-bodies-requires c κs = found (c .before) .size
+
+enum-known-number : tie.Need-enum-known-number
+enum-known-number c = search needs
+
+returns : tie.Need-returns
+returns c = c .check-bodies .ensures ∙ laid _ _ (found (c .before .before))
+
+returns-2 : tie.Need-returns-2
+returns-2 c =
+    let broken = subst (LayoutRead _) (c .before .number .given .1) (c .before .before .before .read .ensures) in
+    ap (λ (z : ℕ). refused z 0) (broken .0) ∙ unlaid _ (broken .1)
+
+pub check-spec : {M : Type 1} → statement M
+check-spec =
+    tie.close
+    (tie.spec read-requires enum-known-k check-bodies-requires enum-known-number returns returns-2)

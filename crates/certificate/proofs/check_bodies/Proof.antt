@@ -1,0 +1,59 @@
+-- Refusal by refusal.
+use borrow.Author.Needs.{needs}
+use borrow.Author.Tests.{not-true, not-false}
+use mathlib.Core.Path.{sym, ap, _∙_}
+use Rattle.atoms.proofs.Truth.{true-T}
+use Rattle.certificate.specs.Judge.{judgeClaim}
+use Rattle.certificate.specs.Checked.{placeOf}
+use Rattle.certificate.proofs.Judging.{unranged, unclosed, claimed}
+use Rattle.certificate.proofs.check_bodies.Statement.{statement}
+use Rattle.certificate.proofs.check_bodies.Tie as tie
+
+in-range-requires : tie.Need-in-range-requires
+in-range-requires c κs = search needs
+
+returns : tie.Need-returns
+returns c = unranged _ _ (sym (c .before .in-range .ensures) ∙ not-true _ (c .if1 .taken))
+
+all-closed-requires : tie.Need-all-closed-requires
+all-closed-requires c κs = record { sized = c .before .before .before .pre; ranged = true-T (sym (c .before .in-range .ensures) ∙ not-false _ (c .if1 .left)) }
+
+returns-2 : tie.Need-returns-2
+returns-2 c = unclosed _ _ (sym (c .before .before .before .in-range .ensures) ∙ not-false _ (c .before .before .if1 .left)) (sym (c .before .all-closed .ensures) ∙ not-true _ (c .if2 .taken))
+
+wrong-place-requires : tie.Need-wrong-place-requires
+wrong-place-requires c κs = record { sized = c .before .before .before .before .before .pre; ranged = true-T (sym (c .before .before .before .in-range .ensures) ∙ not-false _ (c .before .before .if1 .left)) }
+
+enum-told : tie.Need-enum-told
+enum-told c = search needs
+
+enum-known-place : tie.Need-enum-known-place
+enum-known-place c = search needs
+
+returns-3 : tie.Need-returns-3
+unfolding judgeClaim
+returns-3 c =
+    let w = c .before .before in
+    claimed _ _ (sym (w .before .before .before .before .in-range .ensures) ∙ not-false _ (w .before .before .before .if1 .left)) (sym (w .before .before .all-closed .ensures) ∙ not-false _ (w .before .if2 .left)) _
+    (ap placeOf (sym (c .enum-told .given .1)) ∙ w .wrong-place .ensures)
+
+returns-4 : tie.Need-returns-4
+unfolding judgeClaim
+returns-4 c =
+    let w = c .before .before .before in
+    claimed _ _ (sym (w .before .before .before .before .in-range .ensures) ∙ not-false _ (w .before .before .before .if1 .left)) (sym (w .before .before .all-closed .ensures) ∙ not-false _ (w .before .if2 .left)) _
+    (ap placeOf (sym (c .before .place .given .1)) ∙ w .wrong-place .ensures)
+
+pub check-bodies-spec : {M : Type 1} → statement M
+check-bodies-spec =
+    tie.close
+    (tie.spec
+    in-range-requires
+    returns
+    all-closed-requires
+    returns-2
+    wrong-place-requires
+    enum-told
+    enum-known-place
+    returns-3
+    returns-4)

@@ -1,0 +1,84 @@
+-- None of the worlds passed is m.
+use borrow.Author.Needs.{needs}
+use native.Mathlib.Omega.{arith}
+use mathlib.Core.Bool.{false}
+use mathlib.Core.List.{List}
+use mathlib.Core.Path.{_≡_, sym, ap, _∙_}
+use Prim.Native.Nat.{ℕ, _+_, _*_, _-_, _≤_}
+use Rattle.atoms.specs.Words.{num}
+use Rattle.ipl.specs.Lists.{any}
+use lib.Dec.{eqb}
+use Rattle.certificate.specs.Layout.{rows, worldFrom}
+use Rattle.certificate.proofs.Rows.{any-none, any-next, any-found, any-done}
+use Rattle.certificate.proofs.countermodel.is_listed.Statement.{statement}
+use Rattle.certificate.proofs.countermodel.is_listed.Tie as tie
+
+abbrev row : List ℕ → ℕ → ℕ → ℕ
+row s start k = worldFrom s (start + 8 * k)
+
+abbrev Inv-loop : tie.InvT-loop
+Inv-loop bytes start count m i₀ i = (i ≤ count) × (any (eqb (num m)) (rows (row bytes start) i) ≡ false)
+
+abbrev μ-loop : tie.MeasureT-loop
+μ-loop bytes start count m i₀ i = count - i
+
+loop-holds : tie.Need-loop-holds Inv-loop μ-loop
+loop-holds c = let s = c .before .args in (omega arith, any-none (row (s .bytes .now) (s .start)) (eqb (num (s .m))))
+
+mul-load : tie.Need-mul-load Inv-loop μ-loop
+mul-load c = omega arith
+
+add-load : tie.Need-add-load Inv-loop μ-loop
+add-load c = omega arith
+
+load-requires : tie.Need-load-requires Inv-loop μ-loop
+load-requires c κs = search needs
+
+same-requires : tie.Need-same-requires Inv-loop μ-loop
+same-requires c κs = search needs
+
+returns : tie.Need-returns Inv-loop μ-loop
+returns c =
+    let t = c .before in
+    let l = t .before .before .before in
+    let s = l .before .before .args in
+    sym (any-found (row (s .bytes .now) (s .start)) (eqb (num (s .m))) (s .count) (l .loop .i) (omega arith)
+    (ap (eqb (num (s .m))) (sym (t .before .load .ensures)) ∙ sym (t .same .ensures) ∙ c .if1 .taken))
+
+add-i : tie.Need-add-i Inv-loop μ-loop
+add-i c = omega arith
+
+loop-less : tie.Need-loop-less Inv-loop μ-loop
+loop-less c = omega arith
+
+loop-again : tie.Need-loop-again Inv-loop μ-loop
+loop-again c =
+    let t = c .before in
+    let l = t .before .before .before in
+    let s = l .before .before .args in (
+      omega arith,
+      any-next (row (s .bytes .now) (s .start)) (eqb (num (s .m))) (l .loop .i) (l .loop .inv .1)
+          (ap (eqb (num (s .m))) (sym (t .before .load .ensures)) ∙ sym (t .same .ensures) ∙ c .if1 .left),
+    )
+
+returns-2 : tie.Need-returns-2 Inv-loop μ-loop
+returns-2 c =
+    let s = c .before .before .before .args in
+    sym (any-done (row (s .bytes .now) (s .start)) (eqb (num (s .m))) (s .count) (c .before .loop .i) (c .before .loop .inv .0) (omega arith) (c .before .loop .inv .1))
+
+pub is-listed-spec : {M : Type 1} → statement M
+is-listed-spec =
+    tie.close
+    (tie.spec
+    Inv-loop
+    μ-loop
+    loop-holds
+    mul-load
+    add-load
+    load-requires
+    same-requires
+    returns
+    add-i
+    loop-less
+    loop-again
+    returns-2)

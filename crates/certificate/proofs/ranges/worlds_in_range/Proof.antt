@@ -1,0 +1,80 @@
+-- The worlds passed are in range.
+use borrow.Author.Needs.{needs}
+use native.Mathlib.Omega.{arith}
+use borrow.Author.Tests.{not-true, not-false}
+use mathlib.Core.Bool.{true}
+use mathlib.Core.List.{List}
+use mathlib.Core.Path.{_≡_, sym, ap, _∙_}
+use Prim.Native.Nat.{ℕ, _+_, _*_, _-_, _≤_}
+use Rattle.ipl.specs.Lists.{all}
+use Rattle.certificate.specs.Layout.{rows, worldFrom}
+use Rattle.ipl.specs.Range.{setInRange}
+use Rattle.certificate.proofs.Rows.{all-none, all-next, all-fails, all-done}
+use Rattle.certificate.proofs.ranges.worlds_in_range.Statement.{statement}
+use Rattle.certificate.proofs.ranges.worlds_in_range.Tie as tie
+
+abbrev row : List ℕ → ℕ → ℕ → ℕ
+row s start k = worldFrom s (start + 8 * k)
+
+abbrev Inv-loop : tie.InvT-loop
+Inv-loop bytes start count n i₀ i = (i ≤ count) × (all (setInRange n) (rows (row bytes start) i) ≡ true)
+
+abbrev μ-loop : tie.MeasureT-loop
+μ-loop bytes start count n i₀ i = count - i
+
+loop-holds : tie.Need-loop-holds Inv-loop μ-loop
+loop-holds c = (omega arith, all-none (row (c .before .args .bytes .now) (c .before .args .start)) (setInRange (c .before .args .n)))
+
+mul-load : tie.Need-mul-load Inv-loop μ-loop
+mul-load c = omega arith
+
+add-load : tie.Need-add-load Inv-loop μ-loop
+add-load c = omega arith
+
+load-requires : tie.Need-load-requires Inv-loop μ-loop
+load-requires c κs = search needs
+
+set-in-range-requires : tie.Need-set-in-range-requires Inv-loop μ-loop
+set-in-range-requires c κs = search needs
+
+returns : tie.Need-returns Inv-loop μ-loop
+returns c =
+    let t = c .before in
+    let l = t .before .before .before in
+    let s = l .before .before .args in
+    sym (all-fails (row (s .bytes .now) (s .start)) (setInRange (s .n)) (s .count) (l .loop .i) (omega arith) (ap (setInRange (s .n)) (sym (t .before .load .ensures)) ∙ sym (t .set-in-range .ensures) ∙ not-true _ (c .if1 .taken)))
+
+add-i : tie.Need-add-i Inv-loop μ-loop
+add-i c = omega arith
+
+loop-less : tie.Need-loop-less Inv-loop μ-loop
+loop-less c = omega arith
+
+loop-again : tie.Need-loop-again Inv-loop μ-loop
+loop-again c =
+    let t = c .before in
+    let l = t .before .before .before in
+    let s = l .before .before .args in
+    (omega arith, all-next (row (s .bytes .now) (s .start)) (setInRange (s .n)) (l .loop .i) (l .loop .inv .1) (ap (setInRange (s .n)) (sym (t .before .load .ensures)) ∙ sym (t .set-in-range .ensures) ∙ not-false _ (c .if1 .left)))
+
+returns-2 : tie.Need-returns-2 Inv-loop μ-loop
+returns-2 c =
+    let s = c .before .before .before .args in
+    sym (all-done (row (s .bytes .now) (s .start)) (setInRange (s .n)) (s .count) (c .before .loop .i) (c .before .loop .inv .0) (omega arith) (c .before .loop .inv .1))
+
+pub worlds-in-range-spec : {M : Type 1} → statement M
+worlds-in-range-spec =
+    tie.close
+    (tie.spec
+    Inv-loop
+    μ-loop
+    loop-holds
+    mul-load
+    add-load
+    load-requires
+    set-in-range-requires
+    returns
+    add-i
+    loop-less
+    loop-again
+    returns-2)

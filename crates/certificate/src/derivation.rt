@@ -1,0 +1,101 @@
+// Derivation steps: each is right after those before it, and all prove the goal.
+use super::Contents;
+use super::Wrong;
+use super::bytes_at::byte;
+use super::flat_table::load_column;
+use atoms::AtomSet;
+ghost use mathlib.Core.Bool.{false};
+ghost use mathlib.Core.Path.{_≡_};
+ghost use Prim.Native.Nat.{min};
+ghost use Rattle.atoms.specs.Sets.{limit};
+ghost use Rattle.atoms.specs.Words.{num};
+ghost use Rattle.ipl.specs.Question.{ask};
+ghost use Rattle.ipl.specs.Search.{isNone};
+ghost use Rattle.sat.specs.Table.{clauses};
+ghost use Rattle.certificate.specs.Certificate.{valid};
+ghost use Rattle.certificate.specs.Judge.{wrongPlace};
+ghost use Rattle.certificate.specs.Checked.{Ranged, problemBy, stepsBy, StepsReady, StepReady, StepJudged, placeOf};
+
+// Whether the first `count` clauses and the atoms given prove the atom asked.
+fn proves<'a>(
+    left: &'a [u64],
+    right: &'a [u64],
+    count: usize,
+    n: u8,
+    given: AtomSet,
+    asked: u8,
+) -> bool
+    ensures { λ r. ⌜ r ≡ isNone (ask (min n limit) (clauses (now (left .entry)) (now (right .entry)) count) (num given) asked) ⌝ }
+{
+    match sat::ask(left, right, count, n, given, asked) {
+        sat::Answer::Proved => true,
+        sat::Answer::Countered(_) => false,
+    }
+}
+
+// Judges step i by the clauses before it, and puts its clause after them.
+fn judge_step(bytes: &[u8], k: Contents, i: usize, left: &mut [u64], right: &mut [u64]) -> bool
+    requires { ⌜ StepReady (now bytes) k i (now left) (now right) ⌝ }
+    ensures { λ r. ⌜ StepJudged (now (bytes .entry)) k i (now (left .entry)) (now (right .entry)) (now (left .exit)) (now (right .exit)) r ⌝ }
+{
+    let start = 38 + 16 * k.flats;
+    let at = start + 3 * k.implications + 1 + 9 * i;
+    let row = start + 3 * (byte(bytes, at) as usize);
+    let assumed = atoms::load(bytes, at + 1);
+    let last = k.flats + i;
+    let proved = proves(
+        left,
+        right,
+        last,
+        byte(bytes, 37),
+        assumed,
+        byte(bytes, row + 1),
+    );
+    atoms::set_row(
+        left,
+        last,
+        assumed.without(AtomSet::single(byte(bytes, row))),
+    );
+    atoms::set_row(right, last, AtomSet::single(byte(bytes, row + 2)));
+    proved
+}
+
+// Each step in order, then the goal. `wrong_step` loads the flat clauses.
+fn judge_steps(bytes: &[u8], k: Contents, left: &mut [u64], right: &mut [u64]) -> Wrong
+    requires { ⌜ StepsReady (now bytes) k (now left) (now right) ⌝ }
+    ensures { λ r. ⌜ placeOf r ≡ wrongPlace (problemBy (now (bytes .entry)) k) (valid (stepsBy (now (bytes .entry)) k)) ⌝ }
+{
+    let count = k.rows;
+    let mut i = 0;
+    while i < count {
+        if !judge_step(bytes, k, i, left, right) {
+            return Wrong::At(i);
+        }
+        i += 1;
+    }
+    let goal = byte(bytes, 38 + 16 * k.flats + 3 * k.implications);
+    if proves(
+        left,
+        right,
+        k.flats + count,
+        byte(bytes, 37),
+        AtomSet::EMPTY,
+        goal,
+    ) {
+        Wrong::Nothing
+    } else {
+        Wrong::At(count)
+    }
+}
+
+// `wrong_place` meets the ranges.
+pub fn wrong_step(bytes: &[u8], k: Contents) -> Wrong
+    requires { ⌜ Ranged (now bytes) k × (k .refuting ≡ false) ⌝ }
+    ensures { λ r. ⌜ placeOf r ≡ wrongPlace (problemBy (now (bytes .entry)) k) (valid (stepsBy (now (bytes .entry)) k)) ⌝ }
+{
+    let mut left = [0u64; 1024];
+    let mut right = [0u64; 1024];
+    load_column(bytes, 38, k.flats, &mut left);
+    load_column(bytes, 46, k.flats, &mut right);
+    judge_steps(bytes, k, &mut left, &mut right)
+}
