@@ -15,7 +15,7 @@ use Rattle.atoms.proofs.Machine.{limit-small}
 use Rattle.ipl.specs.Lists.{all, All}
 use Rattle.ipl.specs.Clause.{closed}
 use Rattle.ipl.specs.Range.{flatTable, implicationTable, stepTable, worldTable, setInRange}
-use Rattle.ipl.specs.Search.{Step}
+use Rattle.ipl.specs.Search.{Step, stepInRange}
 use Rattle.ipl.specs.Kripke.{Model, IsModel, forcesAtom, ForcesFlat, ForcesImplication, shown}
 use Rattle.ipl.specs.Claim.{Countermodel}
 use Rattle.ipl.proofs.Lists.{all-All, All-all, All-map}
@@ -25,7 +25,7 @@ use Rattle.ipl.proofs.PropositionTwo.{refuting-countermodel}
 use Rattle.certificate.specs.Certificate.{Problem, Claim, valid, refuted, Judgement, accepted, refused}
 use Rattle.certificate.specs.Format.{refutes, rowCount, claimLeast, encode, encodedLength, bound, longest}
 use Rattle.certificate.specs.Layout.{laidOut, problemOf, claimOf}
-use Rattle.certificate.specs.Judge.{stepInRange, claimInRange, inRange, allClosed, wrongPlace, judgeClaim, judgeRead, judge}
+use Rattle.certificate.specs.Judge.{claimInRange, inRange, allClosed, wrongPlace, judgeClaim, judgeRead, judge}
 use Rattle.certificate.specs.Accepted.{Bytes, ClaimRight, Right, Addressed, Refusal, layout, range, closing, claim}
 use Rattle.certificate.proofs.InRange.{range-parts}
 use Rattle.certificate.proofs.Encoding.{FlatFits, ClaimFits, encode-laid, problem-back, claim-back, encode-length}

@@ -18,11 +18,11 @@ use Rattle.ipl.specs.Lists.{all, any, All, Distinct}
 use Rattle.ipl.specs.Clause.{satisfies, realizes}
 use Rattle.ipl.specs.Range.{setInRange}
 use Rattle.ipl.specs.Question.{ask}
-use Rattle.ipl.specs.Search.{Step, implicationAt, known, isNone}
+use Rattle.ipl.specs.Search.{Step, implicationAt, known, isNone, stepInRange}
 use Rattle.ipl.specs.Claim.{StepsRight, Derivation, WorldRight, WorldsRight}
 use Rattle.ipl.proofs.Lists.{all-All, All-all, All-at, All-of, any-at, at-any}
 use Rattle.certificate.specs.Certificate.{Problem, valid, refuted}
-use Rattle.certificate.specs.Judge.{stepInRange, firstFailing, stepProves, goalProved, worldRight, wrongPlace}
+use Rattle.certificate.specs.Judge.{firstFailing, stepProves, goalProved, worldRight, wrongPlace}
 use Rattle.certificate.proofs.FirstWrong.{first-none}
 
 -- ---- the first that fails

@@ -12,10 +12,11 @@ use Rattle.atoms.proofs.Truth.{T-left}
 use Rattle.atoms.proofs.Machine.{row-count-words, same-rows}
 use Rattle.ipl.specs.Lists.{all}
 use Rattle.ipl.specs.Range.{flatTable, stepTable}
+use Rattle.ipl.specs.Search.{stepInRange}
 use Rattle.certificate.specs.Certificate.{Problem, Claim, refused}
 use Rattle.certificate.specs.Format.{claimStart}
 use Rattle.certificate.specs.Layout.{flatFrom, stepFrom, laidOut, problemIn, claimIn, problemOf, claimOf}
-use Rattle.certificate.specs.Judge.{stepInRange, claimInRange, inRange, allClosed, wrongPlace, judgeClaim, judgeRead, judge}
+use Rattle.certificate.specs.Judge.{claimInRange, inRange, allClosed, wrongPlace, judgeClaim, judgeRead, judge}
 use Rattle.certificate.specs.Checked.{problemBy, claimBy, stepsBy, ContentsRead, Ranged, ColumnLoaded, StepsReady, WorldsReady}
 use Rattle.certificate.specs.declared.Contents.{Contents}
 use Rattle.certificate.proofs.Rows.{rows-length}

@@ -18,14 +18,14 @@ use Rattle.ipl.specs.Lists.{all, All}
 use Rattle.ipl.specs.Clause.{Flat, one, learned}
 use Rattle.ipl.specs.Range.{stepTable, setInRange, implicationInRange}
 use Rattle.ipl.specs.Question.{ask}
-use Rattle.ipl.specs.Search.{Step, implicationAt, clauseOf, known, isNone}
+use Rattle.ipl.specs.Search.{Step, implicationAt, clauseOf, known, isNone, stepInRange}
 use Rattle.ipl.proofs.Lists.{all-All, All-at}
 use Rattle.ipl.proofs.Range.{AtomOrBot, ImplicationBelow, implication-below}
 use Rattle.ipl.proofs.Steps.{known-snoc}
 use Rattle.sat.specs.Table.{clauses}
 use Rattle.certificate.specs.Format.{implicationStart, goalStart, claimStart}
 use Rattle.certificate.specs.Layout.{rows, implicationFrom, stepFrom, problemIn, claimIn}
-use Rattle.certificate.specs.Judge.{stepInRange, claimInRange, stepAt, stepProves, goalProved}
+use Rattle.certificate.specs.Judge.{claimInRange, stepAt, stepProves, goalProved}
 use Rattle.certificate.specs.Checked.{flatsIn, Ranged, StepReady, StepsReady, StepJudged, problemBy, claimBy, stepsBy}
 use Rattle.certificate.specs.declared.Contents.{Contents}
 use Rattle.certificate.proofs.Rows.{rows-length, rows-at}

@@ -19,10 +19,11 @@ use Rattle.ipl.specs.Lists.{all}
 use Rattle.ipl.specs.Clause.{bot}
 use Rattle.ipl.specs.Range.{flatTable, implicationTable, stepTable, worldTable, atomOrBot, setInRange, flatInRange, implicationInRange}
 use Rattle.ipl.specs.Book.{countInRange}
+use Rattle.ipl.specs.Search.{stepInRange}
 use Rattle.certificate.specs.Certificate.{Claim}
 use Rattle.certificate.specs.Format.{implicationStart, goalStart, claimStart, claimWidth}
 use Rattle.certificate.specs.Layout.{flatFrom, implicationFrom, stepFrom, worldFrom, problemIn, claimIn}
-use Rattle.certificate.specs.Judge.{stepInRange, claimInRange, countsInRange, inRange}
+use Rattle.certificate.specs.Judge.{claimInRange, countsInRange, inRange}
 use Rattle.certificate.specs.Checked.{flatsIn, implicationsIn, stepsIn, worldsIn}
 use Rattle.certificate.proofs.Rows.{rows-length}
 

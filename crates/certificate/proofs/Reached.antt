@@ -9,19 +9,20 @@ use Rattle.atoms.proofs.Truth.{T-and, true-T, by-cond}
 use Rattle.ipl.specs.Lists.{all, All}
 use Rattle.ipl.specs.Clause.{Flat, Implication}
 use Rattle.ipl.specs.Range.{stepTable, worldTable, atomOrBot, setInRange}
-use Rattle.ipl.specs.Search.{Step, Outcome, valid, refuted, refused, unfinished, search}
+use Rattle.ipl.specs.Search.{Step, Outcome, valid, refuted, refused, unfinished, search, stepInRange}
 use Rattle.ipl.specs.Claim.{StepsRight}
 use Rattle.ipl.specs.Book.{Book, Call, opened, answer, stepsAfter, after}
 use Rattle.ipl.specs.Demand.{WellFormed}
 use Rattle.ipl.proofs.Lists.{All-all, All-map}
 use Rattle.ipl.proofs.Range.{implication-below}
+use Rattle.ipl.proofs.Steps.{right-steps-in-range}
 use Rattle.ipl.proofs.Search.{OutcomeRight, search-right}
 use Rattle.ipl.proofs.Limits.{Fits, search-fits}
 use Rattle.ipl.proofs.Book.{Reached, opened-reached, next-reached}
 use Rattle.certificate.specs.Certificate as certificate
 use Rattle.certificate.specs.Certificate.{Claim, accepted}
 use Rattle.certificate.specs.Format.{encode, longest}
-use Rattle.certificate.specs.Judge.{stepInRange, claimInRange, inRange, judge}
+use Rattle.certificate.specs.Judge.{claimInRange, inRange, judge}
 use Rattle.certificate.specs.Written.{problemOfBook, claimOfVerdict}
 use Rattle.certificate.specs.Accepted.{Right}
 use Rattle.certificate.proofs.InRange.{range-of}
@@ -33,14 +34,6 @@ use Rattle.certificate.proofs.Acceptance.{encode-accepted, length-told}
 abbrev ClaimMade : Book → ℕ → Option Claim → Type 0
 ClaimMade k g none = Unit {0}
 ClaimMade k g (some c) = Right (problemOfBook k g) c
-
-steps-in-range : (n : ℕ) (F : List Flat) (X : List Implication) (P S : List Step) → StepsRight n F X P S → All (λ s. T (stepInRange n (length X) s)) S
-unfolding stepInRange setInRange
-steps-in-range n F X P [] h = tt
-steps-in-range n F X P (s ∷ S) h = (
-  T-and (ltb (s .number) (length X)) (ltb (s .assumed) (2 ^ n)) (lt→ltb (s .number) (length X) (h .0 .number)) (lt→ltb (s .assumed) (2 ^ n) (h .0 .below)),
-  steps-in-range n F X _ S (h .1),
-)
 
 module _ (k : Book) (g : ℕ) (w : WellFormed k) (goal : T (atomOrBot (k .n) g)) where
   ranged : (c : Claim) → T (claimInRange (k .n) (length (k .implications)) c) → T (inRange (problemOfBook k g) c)
@@ -59,7 +52,7 @@ module _ (k : Book) (g : ℕ) (w : WellFormed k) (goal : T (atomOrBot (k .n) g))
   unfolding claimInRange setInRange claimOfVerdict stepsAfter
   outcome-right (valid s) h f = record {
     range = ranged (certificate.valid (s .steps)) (T-and (leb (length (s .steps)) stepTable) (all (stepInRange (k .n) (length (k .implications))) (s .steps)) (le→leb (length (s .steps)) stepTable (f .0))
-        (All-all (stepInRange (k .n) (length (k .implications))) (s .steps) (steps-in-range (k .n) (k .flats) (k .implications) [] (s .steps) (h .derivation .steps))));
+        (All-all (stepInRange (k .n) (length (k .implications))) (s .steps) (right-steps-in-range (k .n) (k .flats) (k .implications) [] (s .steps) (h .derivation .steps))));
     closings = w .closings;
     claim = h .derivation;
   }

@@ -10,15 +10,12 @@ use Rattle.ipl.specs.Lists.{all, any}
 use Rattle.ipl.specs.Clause.{satisfies, closed, realizes}
 use Rattle.ipl.specs.Range.{flatTable, implicationTable, stepTable, worldTable, atomOrBot, setInRange, flatInRange, implicationInRange}
 use Rattle.ipl.specs.Question.{ask}
-use Rattle.ipl.specs.Search.{Step, implicationAt, known, isNone}
+use Rattle.ipl.specs.Search.{Step, stepInRange, implicationAt, known, isNone}
 use Rattle.ipl.specs.Book.{countInRange}
 use Rattle.certificate.specs.Certificate.{Problem, Claim, valid, refuted, Judgement, accepted, refused}
 use Rattle.certificate.specs.Layout.{laidOut, problemOf, claimOf}
 
 -- "14: a number or count out of range"; m is the number of implications.
-unfoldable pub stepInRange : ℕ → ℕ → Step → Bool
-stepInRange n m s = ltb (s .number) m && setInRange n (s .assumed)
-
 unfoldable pub claimInRange : ℕ → ℕ → Claim → Bool
 claimInRange n m (valid S) = leb (length S) stepTable && all (stepInRange n m) S
 claimInRange n m (refuted W) = leb (length W) worldTable && all (setInRange n) W

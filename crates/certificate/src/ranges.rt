@@ -8,8 +8,9 @@ ghost use lib.ListN.{length};
 ghost use Rattle.atoms.specs.Words.{num};
 ghost use Rattle.ipl.specs.Lists.{all};
 ghost use Rattle.ipl.specs.Range.{atomOrBot, setInRange, flatInRange, implicationInRange};
+ghost use Rattle.ipl.specs.Search.{stepInRange};
 ghost use Rattle.certificate.specs.Layout.{flatFrom, implicationFrom, stepFrom};
-ghost use Rattle.certificate.specs.Judge.{stepInRange, claimInRange, countsInRange, inRange};
+ghost use Rattle.certificate.specs.Judge.{claimInRange, countsInRange, inRange};
 ghost use Rattle.certificate.specs.Checked.{Sized, problemBy, claimBy, flatsIn, implicationsIn, stepsIn, worldsIn};
 
 // An atom below n, or ⊥.

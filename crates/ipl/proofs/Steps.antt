@@ -4,15 +4,16 @@ use mathlib.Core.List.{List, [], _∷_, _++_, map, append-assoc, append-nil}
 use mathlib.Core.Path.{_≡_, refl, sym, ap, ap₂, _∙_, subst}
 use Prim.Native.Nat.{ℕ, _≤_, _^_, _<_}
 use native.Mathlib.Omega.{arith}
-use lib.Dec.{T}
+use lib.Dec.{T, ltb, lt→ltb}
 use lib.ListN.{length, length-append, List·getD-append}
 use lib.Pow.{pow-pos}
 use Rattle.atoms.specs.Sets.{single}
-use Rattle.atoms.proofs.Truth.{false-T}
+use Rattle.atoms.proofs.Truth.{T-and, false-T}
 use Rattle.atoms.proofs.Members.{has-empty, minus-lt}
 use Rattle.ipl.specs.Lists.{All}
 use Rattle.ipl.specs.Clause.{bot, Flat, Implication, satisfies, learned}
-use Rattle.ipl.specs.Search.{Step, implicationAt, clauseOf, known}
+use Rattle.ipl.specs.Range.{setInRange}
+use Rattle.ipl.specs.Search.{Step, stepInRange, implicationAt, clauseOf, known}
 use Rattle.ipl.specs.Kripke.{Model, IsModel, forcesAtom, ForcesFlat, ForcesImplication}
 use Rattle.ipl.specs.Claim.{Countermodel, StepRight, StepsRight, Derivation}
 use Rattle.ipl.proofs.Lists.{All-at, All-map, All-zip, All-append, All-left, All-right, map-snoc}
@@ -35,9 +36,13 @@ steps-snoc n F X P [] s h k = (subst (λ Q. StepRight n F X Q s) (append-nil P) 
 steps-snoc n F X P (x ∷ S) s h k =
     (h .0, steps-snoc n F X (P ++ (x ∷ [])) S s (h .1) (subst (λ Q. StepRight n F X Q s) (sym (append-assoc P (x ∷ []) S)) k))
 
-pub step-ranges : (n : ℕ) (F : List Flat) (X : List Implication) (P S : List Step) → StepsRight n F X P S → All (λ s. (s .number < length X) × (s .assumed < 2 ^ n)) S
-step-ranges n F X P [] h = tt
-step-ranges n F X P (s ∷ S) h = ((h .0 .number, h .0 .below), step-ranges n F X (P ++ (s ∷ [])) S (h .1))
+pub right-steps-in-range : (n : ℕ) (F : List Flat) (X : List Implication) (P S : List Step) → StepsRight n F X P S → All (λ s. T (stepInRange n (length X) s)) S
+unfolding stepInRange setInRange
+right-steps-in-range n F X P [] h = tt
+right-steps-in-range n F X P (s ∷ S) h = (
+  T-and (ltb (s .number) (length X)) (ltb (s .assumed) (2 ^ n)) (lt→ltb (s .number) (length X) (h .0 .number)) (lt→ltb (s .assumed) (2 ^ n) (h .0 .below)),
+  right-steps-in-range n F X (P ++ (s ∷ [])) S (h .1),
+)
 
 pub step-numbers : (n : ℕ) (F : List Flat) (X : List Implication) (P S : List Step) → StepsRight n F X P S → All (λ s. s .number < length X) S
 step-numbers n F X P [] h = tt

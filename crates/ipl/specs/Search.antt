@@ -8,13 +8,17 @@ use lib.Dec.{ltb}
 use lib.ListN.{length, getD}
 use Rattle.atoms.specs.Sets.{has, insert, remove}
 use Rattle.ipl.specs.Clause.{Flat, Implication, realizes, learned}
-use Rattle.ipl.specs.Range.{stepTable, worldTable}
+use Rattle.ipl.specs.Range.{stepTable, worldTable, setInRange}
 use Rattle.ipl.specs.Question.{ask}
 
 -- "The learned step is (implication number, A)."
 pub record Step : Type 0 where
   pub number : ℕ
   pub assumed : ℕ
+
+-- A step in range, over n atoms and m implications.
+unfoldable pub stepInRange : ℕ → ℕ → Step → Bool
+stepInRange n m s = ltb (s .number) m && setInRange n (s .assumed)
 
 -- Implication number k.
 abbrev pub implicationAt : List Implication → ℕ → Implication

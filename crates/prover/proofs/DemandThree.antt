@@ -13,17 +13,17 @@ use Rattle.atoms.specs.Words.{rowOf}
 use Rattle.atoms.proofs.Truth.{T-and, by-cond}
 use Rattle.ipl.specs.Lists.{all, All}
 use Rattle.ipl.specs.Range.{flatTable, implicationTable, stepTable, worldTable, atomOrBot, setInRange, flatInRange, implicationInRange}
-use Rattle.ipl.specs.Search.{Step, State, Outcome, valid, refuted, refused, unfinished}
+use Rattle.ipl.specs.Search.{Step, State, Outcome, valid, refuted, refused, unfinished, stepInRange}
 use Rattle.ipl.specs.Book as B
 use Rattle.ipl.specs.Book.{Book, Call, countInRange, answer, refusal, numberOf, stepsAfter, taken, next}
 use Rattle.ipl.specs.Demand.{WellFormed}
 use Rattle.ipl.proofs.Lists.{All-all, All-map, tabulate-length}
-use Rattle.ipl.proofs.Steps.{step-ranges}
+use Rattle.ipl.proofs.Steps.{right-steps-in-range}
 use Rattle.ipl.proofs.Limits.{Fits}
 use Rattle.ipl.proofs.Search.{OutcomeRight}
 use Rattle.ipl.proofs.Book.{Reached, opened-reached, next-reached, answer-right, claims}
 use Rattle.prover.specs.State.{implicationRow, stepRow, flatsOf, implicationsOf, stepsOf, worldsOf, book}
-use Rattle.prover.specs.InRange.{flatsInRange, implicationsInRange, stepInRange, stepsInRange, worldsInRange, heldInRange, inRange}
+use Rattle.prover.specs.InRange.{flatsInRange, implicationsInRange, stepsInRange, worldsInRange, heldInRange, inRange}
 use Rattle.prover.specs.Calls.{number, outcome, NothingHeld, Added, Answer, AskedAs}
 use Rattle.prover.specs.Demand.{Made, addFlat, addImplication, question, callOf, Returned, sessionOf, Meets, Run, VerdictIs, AnswerIs, Follows, DemandThree}
 use Rattle.prover.specs.declared.Session.{Session}
@@ -54,20 +54,14 @@ module _ (s : Session) (h : WellFormed (book s)) where
       (le→leb (s .implications .count) implicationTable (omega (arith, h .implication-count, tabulate-length (implicationRow (s .implications)) (s .implications .count))))
       (All-all (implicationInRange (s .n)) (implicationsOf (s .implications)) (h .implications))
 
-  step-in-range : (t : Step) → (t .number < length (implicationsOf (s .implications))) × (t .assumed < 2 ^ s .n) → T (stepInRange (s .n) (s .implications .count) t)
-  unfolding stepInRange setInRange
-  step-in-range t r =
-      T-and (ltb (t .number) (s .implications .count)) (ltb (t .assumed) (2 ^ s .n))
-      (lt→ltb (t .number) (s .implications .count) (omega (arith, r .0, tabulate-length (implicationRow (s .implications)) (s .implications .count))))
-      (lt→ltb (t .assumed) (2 ^ s .n) (r .1))
-
   steps-in-range : T (stepsInRange (s .n) (s .implications .count) (s .steps))
   unfolding stepsInRange
   steps-in-range =
       T-and (leb (s .steps .count) stepTable) (all (stepInRange (s .n) (s .implications .count)) (stepsOf (s .steps)))
       (le→leb (s .steps .count) stepTable (omega (arith, h .step-count, tabulate-length (stepRow (s .steps)) (s .steps .count))))
       (All-all (stepInRange (s .n) (s .implications .count)) (stepsOf (s .steps))
-      (All-map (stepsOf (s .steps)) step-in-range (step-ranges (s .n) (flatsOf (s .flats)) (implicationsOf (s .implications)) [] (stepsOf (s .steps)) (h .steps))))
+      (subst (λ (m : ℕ). All (λ t. T (stepInRange (s .n) m t)) (stepsOf (s .steps))) (tabulate-length (implicationRow (s .implications)) (s .implications .count))
+      (right-steps-in-range (s .n) (flatsOf (s .flats)) (implicationsOf (s .implications)) [] (stepsOf (s .steps)) (h .steps))))
 
   module _ (W : List ℕ) (shows : worldsOf (s .worlds) ≡ W) (few : length W ≤ worldTable) (below : All (λ M. M < 2 ^ s .n) W) where
     worlds-in-range : T (worldsInRange (s .n) (s .worlds))

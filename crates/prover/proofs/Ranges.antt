@@ -17,8 +17,8 @@ use Rattle.ipl.specs.Clause.{Implication}
 use Rattle.ipl.specs.Range.{atomOrBot, setInRange, flatInRange, implicationInRange}
 use Rattle.ipl.proofs.Lists.{all-both}
 use Rattle.sat.specs.Table.{clauseAt, clauses}
+use Rattle.ipl.specs.Search.{stepInRange}
 use Rattle.prover.specs.State.{byteAt, implicationRow, stepRow}
-use Rattle.prover.specs.InRange.{stepInRange}
 use Rattle.prover.specs.declared.Implications.{Implications}
 use Rattle.prover.specs.declared.Steps.{Steps}
 

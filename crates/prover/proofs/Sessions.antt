@@ -15,7 +15,8 @@ use Rattle.ipl.specs.Range.{flatTable, implicationTable, stepTable, setInRange,
 use Rattle.ipl.specs.Book.{countInRange}
 use Rattle.ipl.proofs.Lists.{all-All, All-tabulate}
 use Rattle.prover.specs.State.{implicationRow, stepRow, flatsOf, implicationsOf, stepsOf}
-use Rattle.prover.specs.InRange.{flatsInRange, implicationsInRange, stepInRange, stepsInRange, worldsInRange, heldInRange, inRange}
+use Rattle.ipl.specs.Search.{stepInRange}
+use Rattle.prover.specs.InRange.{flatsInRange, implicationsInRange, stepsInRange, worldsInRange, heldInRange, inRange}
 use Rattle.prover.specs.Working.{Usable, StepsFit, KnownWritten}
 use Rattle.prover.specs.Search.{Fresh}
 use Rattle.prover.specs.declared.Session.{Session}

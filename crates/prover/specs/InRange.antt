@@ -5,7 +5,7 @@ use Prim.Native.Nat.{ℕ}
 use lib.Dec.{leb, ltb}
 use Rattle.ipl.specs.Lists.{all}
 use Rattle.ipl.specs.Range.{flatTable, implicationTable, stepTable, worldTable, atomOrBot, setInRange, flatInRange, implicationInRange}
-use Rattle.ipl.specs.Search.{Step}
+use Rattle.ipl.specs.Search.{stepInRange}
 use Rattle.ipl.specs.Book.{countInRange}
 use Rattle.prover.specs.State.{flatsOf, implicationsOf, stepsOf, worldsOf}
 use Rattle.prover.specs.declared.Flats.{Flats}
@@ -21,10 +21,6 @@ flatsInRange n t = leb (t .count) flatTable && all (flatInRange n) (flatsOf t)
 
 unfoldable pub implicationsInRange : ℕ → Implications → Bool
 implicationsInRange n t = leb (t .count) implicationTable && all (implicationInRange n) (implicationsOf t)
-
--- A step over n atoms and m implications.
-unfoldable pub stepInRange : ℕ → ℕ → Step → Bool
-stepInRange n m s = ltb (s .number) m && setInRange n (s .assumed)
 
 unfoldable pub stepsInRange : ℕ → ℕ → Steps → Bool
 stepsInRange n m t = leb (t .count) stepTable && all (stepInRange n m) (stepsOf t)

@@ -6,9 +6,8 @@ use mathlib.Core.List.{List}
 use mathlib.Core.Path.{_≡_, sym, _∙_}
 use Prim.Native.Nat.{ℕ, _+_, _*_, _-_, _≤_}
 use Rattle.ipl.specs.Lists.{all}
-use Rattle.ipl.specs.Search.{Step}
+use Rattle.ipl.specs.Search.{Step, stepInRange}
 use Rattle.certificate.specs.Layout.{rows, stepFrom}
-use Rattle.certificate.specs.Judge.{stepInRange}
 use Rattle.certificate.proofs.Rows.{all-none, all-next, all-fails, all-done}
 use Rattle.certificate.proofs.ranges.steps_in_range.Statement.{statement}
 use Rattle.certificate.proofs.ranges.steps_in_range.Tie as tie
