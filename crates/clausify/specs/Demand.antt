@@ -1,0 +1,36 @@
+-- Demand 2 for texts: what a verdict on a text says of its formula.
+use mathlib.Core.List.{List}
+use mathlib.Core.Logic.{_⊎_}
+use mathlib.Core.Path.{_≡_}
+use Prim.Native.Nat.{ℕ}
+use Rattle.ipl.specs.Kripke.{Model, IsModel, forcesAtom, forces, shown}
+use Rattle.prover.specs.State.{worldsOf}
+use Rattle.prover.specs.declared.Verdict.{Verdict}
+use Rattle.prover.specs.declared.Verdict.the-variants.{Valid, Refuted, Refused}
+use Rattle.syntax.specs.Grammar.{Tree, opened, Reads}
+use Rattle.syntax.specs.Nodes.{Entry, letter, leafAt, nodes}
+use Rattle.syntax.specs.Refusal as text
+use Rattle.syntax.specs.Judge.{judge}
+use Rattle.clausify.specs.Naming.{atomAt}
+use Rattle.clausify.specs.Calls.{SettledAs}
+use Rattle.clausify.specs.declared.Settled.{Settled}
+
+-- A model of atoms "read on the letters": each letter of the table is forced where its atom is.
+abbrev pub onLetters : List Entry → Model → Model
+onLetters T m = record { count = m .count; root = m .root; le = m .le; holds = λ w l. forcesAtom m w (atomAt T (leafAt (letter l) T)) }
+
+-- The worlds shown, read on the letters, are a model whose root does not force the formula of t.
+pub record Refutes (t : Tree) (W : List ℕ) : Type 0 where
+  pub model : IsModel (onLetters (nodes t .table) (shown W))
+  pub unforced : forces (onLetters (nodes t .table) (shown W)) 0 (opened t) → ⊥
+
+-- Valid: the root of every finite Kripke model forces the formula. Refuted: the worlds shown refute it. Refused: a refusal of
+-- the text, or the search met 11 or 12.
+abbrev pub Says : List ℕ → Verdict → List ℕ → Type 0
+Says s (Valid steps) W = (t : Tree) × Reads s t × ((m : Model) → IsModel m → forces m (m .root) (opened t))
+Says s (Refuted worlds) W = (t : Tree) × Reads s t × Refutes t W
+Says s (Refused number place) W = text.Refused s number place ⊎ ((t : Tree) × text.Accepted s t × ((number ≡ 11) ⊎ (number ≡ 12)))
+
+-- For every text, and every answer as the contract states it.
+abbrev pub DemandTwo : Type 0
+DemandTwo = (s : List ℕ) (r : Settled) → SettledAs (judge s) r → Says s (r .verdict) (worldsOf (r .session .worlds))
