@@ -3,3 +3,4 @@ pub mod Naming
 pub mod Additions
 pub mod Calls
 pub mod Demand
+pub mod Writing

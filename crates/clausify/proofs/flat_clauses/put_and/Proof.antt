@@ -1,0 +1,52 @@
+-- Three clauses, one after the other.
+use mathlib.Core.Path.{refl}
+use mathlib.Core.Bool.{false}
+use Rattle.clausify.proofs.Written.{fits-second, fits-third, and-put}
+use borrow.Author.Needs.{needs}
+use Rattle.clausify.proofs.flat_clauses.put_and.Statement.{statement}
+use Rattle.clausify.proofs.flat_clauses.put_and.Tie as tie
+
+single-requires : tie.Need-single-requires
+single-requires c κs = search needs
+
+single-requires-2 : tie.Need-single-requires-2
+single-requires-2 c κs = search needs
+
+single-requires-3 : tie.Need-single-requires-3
+single-requires-3 c κs = search needs
+
+put-requires : tie.Need-put-requires
+put-requires c κs = search needs
+
+put-requires-2 : tie.Need-put-requires-2
+put-requires-2 c κs = fits-second _ _ _ _ _ _ (c .before .before .before .before .before .before .before .before .before .before .before .before .before .before .pre) false _ _ _ _ (c .before .before .before .before .before .before .put .ensures)
+
+join-requires : tie.Need-join-requires
+join-requires c κs = search needs
+
+put-requires-3 : tie.Need-put-requires-3
+put-requires-3 c κs = fits-third _ _ _ _ _ _ (c .before .before .before .before .before .before .before .before .before .before .before .before .before .before .before .before .before .before .before .before .before .before .pre) false false _ _ _ _ _ _ _ _ (c .before .before .before .before .before .before .before .before .before .before .before .before .before .before .put .ensures) (c .before .before .before .before .before .before .before .put2 .ensures)
+
+same-length : tie.Need-same-length
+same-length c = search needs
+
+same-length-2 : tie.Need-same-length-2
+same-length-2 c = search needs
+
+returns : tie.Need-returns
+returns c = and-put _ _ _ _ _ _ (c .before .before .before .before .before .before .before .before .before .before .before .before .before .before .before .before .before .before .before .before .before .before .before .before .before .before .before .pre) _ _ _ _ (c .before .before .before .before .before .before .before .before .before .before .before .before .before .before .before .before .before .before .before .before .before .before .before .before .single .ensures) (c .before .before .before .before .before .before .before .before .before .before .before .before .before .before .before .before .before .before .before .before .before .before .before .single2 .ensures) (c .before .before .before .before .before .before .before .before .before .before .before .before .before .before .before .before .before .before .before .before .before .before .single3 .ensures) _ _ _ _ _ _ _ _ _ (c .before .before .before .before .before .join .ensures) _ refl (c .before .before .before .before .before .before .before .before .before .before .before .before .before .before .before .before .before .before .before .put .ensures) (c .before .before .before .before .before .before .before .before .before .before .before .before .put2 .ensures) (c .before .before .before .before .put3 .ensures)
+
+pub put-and-spec : {M : Type 1} → statement M
+put-and-spec =
+    tie.close
+    (tie.spec
+    single-requires
+    single-requires-2
+    single-requires-3
+    put-requires
+    put-requires-2
+    join-requires
+    put-requires-3
+    same-length
+    same-length-2
+    returns)

@@ -1,0 +1,108 @@
+// The atoms of a formula's parts: letters in order of first standing, then a name for each connective.
+use syntax::Part;
+use syntax::Parts;
+ghost use mathlib.Core.Path.{_≡_};
+ghost use Prim.Native.Nat.{_<_};
+ghost use Rattle.syntax.specs.Parts.{entryOf, held, Sound};
+ghost use Rattle.clausify.specs.Naming.{letterCount};
+ghost use Rattle.clausify.specs.Writing.{lettersIn, namesIn, Passed, NamesOf};
+
+// The atom of each part, how many letters there are, and how many atoms.
+pub struct Names {
+    pub atoms: [u8; 65],
+    pub letters: u8,
+    pub count: u8,
+}
+
+// The atom of a part that was passed, the next letter's atom, and the next name.
+struct Next {
+    atom: u8,
+    letter: u8,
+    name: u8,
+}
+
+fn letters_in(part: Part) -> u8
+    ensures { λ r. ⌜ r ≡ lettersIn (entryOf part) ⌝ }
+{
+    match part {
+        Part::Letter(_) => 1,
+        Part::Falsum => 0,
+        Part::Compound(_, _, _) => 0,
+    }
+}
+
+pub fn names_in(part: Part) -> u8
+    ensures { λ r. ⌜ r ≡ namesIn (entryOf part) ⌝ }
+{
+    match part {
+        Part::Letter(_) => 0,
+        Part::Falsum => 0,
+        Part::Compound(_, _, _) => 1,
+    }
+}
+
+// Every table of the reader is sound.
+fn letter_count(parts: Parts) -> u8
+    requires { ⌜ Sound parts ⌝ }
+    ensures { λ r. ⌜ r ≡ letterCount (held parts) ⌝ }
+{
+    let mut letters = 0;
+    let mut i: u8 = 0;
+    while i < parts.count {
+        let node = parts.nodes[i as usize];
+        let part = node.part;
+        letters += letters_in(part);
+        i += 1;
+    }
+    letters
+}
+
+fn pass(next: Next, part: Part) -> Next
+    requires { ⌜ (next .letter < 255) × (next .name < 255) ⌝ }
+    ensures { λ r. ⌜ Passed next (entryOf part) r ⌝ }
+{
+    match part {
+        Part::Letter(_) => Next {
+            atom: next.letter,
+            letter: next.letter + 1,
+            name: next.name,
+        },
+        Part::Falsum => Next {
+            atom: 255,
+            letter: next.letter,
+            name: next.name,
+        },
+        Part::Compound(_, _, _) => Next {
+            atom: next.name,
+            letter: next.letter,
+            name: next.name + 1,
+        },
+    }
+}
+
+pub fn names_of(parts: Parts) -> Names
+    requires { ⌜ Sound parts ⌝ }
+    ensures { λ r. ⌜ NamesOf (held parts) r ⌝ }
+{
+    let letters = letter_count(parts);
+    let mut atoms = [255; 65];
+    let mut next = Next {
+        atom: 255,
+        letter: 0,
+        name: letters,
+    };
+    let mut i: u8 = 0;
+    while i < parts.count {
+        let at = i as usize;
+        let node = parts.nodes[at];
+        let part = node.part;
+        next = pass(next, part);
+        atoms[at] = next.atom;
+        i += 1;
+    }
+    Names {
+        atoms,
+        letters,
+        count: next.name,
+    }
+}
