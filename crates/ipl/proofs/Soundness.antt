@@ -23,6 +23,20 @@ pub bot-unforced : (m : Model) (w : ℕ) → forcesAtom m w bot ≡ false
 unfolding forcesAtom
 bot-unforced m w = refl
 
+pub some-one : (m : Model) (v c : ℕ) → T (forcesAtom m v c) → ForcesSome m v (one c)
+unfolding one
+some-one m v c t = go (eqb c bot) refl
+  where
+    go : (b : Bool) → eqb c bot ≡ b → ForcesSome m v (cond b 0 (single c))
+    go true e = absurd (false-T (bot-unforced m v) (subst (λ (x : ℕ). T (forcesAtom m v x)) (eqb-true c bot e) t))
+    go false e = (c, subst T (sym (has-single c c)) (eqb-refl c), t)
+
+pub atom-persists : (m : Model) → IsModel m → (u v x : ℕ) → u < m .count → v < m .count → T (m .le u v) → T (forcesAtom m u x) → T (forcesAtom m v x)
+unfolding forcesAtom
+atom-persists m ok u v x lu lv l t =
+    T-and (not (eqb x bot)) (m .holds v x) (T-left (not (eqb x bot)) (m .holds u x) t)
+    (ok .persistent u v x lu lv l (T-right (not (eqb x bot)) (m .holds u x) t))
+
 module _ (n : ℕ) (few : n ≤ bot) (m : Model) (ok : IsModel m) where
   -- The set of the atoms forced at a world.
   atomsAt : ℕ → ℕ
@@ -63,21 +77,10 @@ module _ (n : ℕ) (few : n ≤ bot) (m : Model) (ok : IsModel m) where
       }))
 
   every-persists : (u v s : ℕ) → u < m .count → v < m .count → T (m .le u v) → ForcesEvery m u s → ForcesEvery m v s
-  unfolding forcesAtom
-  every-persists u v s lu lv l h i t =
-      T-and (not (eqb i bot)) (m .holds v i) (T-left (not (eqb i bot)) (m .holds u i) (h i t))
-      (ok .persistent u v i lu lv l (T-right (not (eqb i bot)) (m .holds u i) (h i t)))
+  every-persists u v s lu lv l h i t = atom-persists m ok u v i lu lv l (h i t)
 
   flat-persists : (u v : ℕ) → u < m .count → v < m .count → T (m .le u v) → (f : Flat) → ForcesFlat m u f → ForcesFlat m v f
   flat-persists u v lu lv l f h w lw k = h w lw (ok .transitive u v w lu lv lw l k)
-
-  some-one : (v c : ℕ) → T (forcesAtom m v c) → ForcesSome m v (one c)
-  unfolding one
-  some-one v c t = go (eqb c bot) refl
-    where
-      go : (b : Bool) → eqb c bot ≡ b → ForcesSome m v (cond b 0 (single c))
-      go true e = absurd (false-T (bot-unforced m v) (subst (λ (x : ℕ). T (forcesAtom m v x)) (eqb-true c bot e) t))
-      go false e = (c, subst T (sym (has-single c c)) (eqb-refl c), t)
 
   -- A is forced where a and the rest of A are.
   every-with : (u A a : ℕ) → ForcesEvery m u (remove A a) → T (forcesAtom m u a) → ForcesEvery m u A
@@ -92,7 +95,7 @@ module _ (n : ℕ) (few : n ≤ bot) (m : Model) (ok : IsModel m) where
       → (w : ℕ) → w < m .count → All (ForcesFlat m w) R → ForcesImplication m w i → ForcesFlat m w (learned i A)
   unfolding learned
   learned-forced R i A oR oA ob e w lw hR hi v lv l hv =
-      some-one v (i .c)
+      some-one m v (i .c)
       (hi v lv l
       (λ u lu k ta.
       consequence-forced R A (i .b) oR oA ob e u lu

@@ -13,6 +13,7 @@ pub mod Beginning
 pub mod Unique
 pub mod Names
 pub mod Stands
+pub mod Letters
 pub mod Judgement
 pub mod Reader
 pub mod Judge

@@ -1,0 +1,2 @@
+-- Laws of the naming of parts, and the theorems.
+pub mod Additions
