@@ -1,2 +1,5 @@
 -- Laws of the naming of parts, and the theorems.
 pub mod Additions
+pub mod Compounds
+pub mod Atoms
+pub mod TextBook

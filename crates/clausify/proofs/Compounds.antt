@@ -1,0 +1,36 @@
+-- The calls of a table are those of its compounds, each with its own atom and those of its parts.
+use mathlib.Core.List.{List, [], _∷_}
+use Prim.Native.Nat.{ℕ, zero, suc, _<_}
+use native.Mathlib.Omega.{arith}
+use lib.ListN.{length, getD}
+use Rattle.ipl.specs.Lists.{All}
+use Rattle.ipl.specs.Clause.{bot}
+use Rattle.ipl.specs.Book.{Call}
+use Rattle.ipl.proofs.Lists.{All-append, All-left, All-right}
+use Rattle.syntax.specs.Nodes.{Entry, letter, falsum, compound}
+use Rattle.clausify.specs.Naming.{atomsFrom, partCalls, callsFrom}
+
+-- The calls of one part with the atom x, where A has the atoms of all parts.
+abbrev pub entryCalls : List ℕ → ℕ → Entry → List Call
+entryCalls A x (letter l) = []
+entryCalls A x falsum = []
+entryCalls A x (compound c a b) = partCalls c x (getD A a bot) (getD A b bot)
+
+module _ (P : Call → Type 0) (A : List ℕ) where
+  pub calls-at : (T : List Entry) (l x : ℕ) → All P (callsFrom A x T) → (i : ℕ) → i < length T → All P (entryCalls A (getD (atomsFrom l x T) i bot) (getD T i falsum))
+  unfolding callsFrom atomsFrom
+  calls-at [] l x h i k = absurd (omega arith)
+  calls-at (letter s ∷ T) l x h zero k = tt
+  calls-at (letter s ∷ T) l x h (suc i) k = calls-at T (suc l) x h i (omega arith)
+  calls-at (falsum ∷ T) l x h zero k = tt
+  calls-at (falsum ∷ T) l x h (suc i) k = calls-at T l x h i (omega arith)
+  calls-at (compound c a b ∷ T) l x h zero k = All-left P (partCalls c x (getD A a bot) (getD A b bot)) (callsFrom A (suc x) T) h
+  calls-at (compound c a b ∷ T) l x h (suc i) k = calls-at T l (suc x) (All-right P (partCalls c x (getD A a bot) (getD A b bot)) (callsFrom A (suc x) T) h) i (omega arith)
+
+  pub calls-of : (T : List Entry) (l x : ℕ) → ((i : ℕ) → i < length T → All P (entryCalls A (getD (atomsFrom l x T) i bot) (getD T i falsum))) → All P (callsFrom A x T)
+  unfolding callsFrom atomsFrom
+  calls-of [] l x h = tt
+  calls-of (letter s ∷ T) l x h = calls-of T (suc l) x (λ i k. h (suc i) (omega arith))
+  calls-of (falsum ∷ T) l x h = calls-of T l x (λ i k. h (suc i) (omega arith))
+  calls-of (compound c a b ∷ T) l x h =
+      All-append P (partCalls c x (getD A a bot) (getD A b bot)) (callsFrom A (suc x) T) (h 0 (omega arith)) (calls-of T l (suc x) (λ i k. h (suc i) (omega arith)))
