@@ -3,3 +3,4 @@ pub mod Additions
 pub mod Compounds
 pub mod Atoms
 pub mod TextBook
+pub mod Part
