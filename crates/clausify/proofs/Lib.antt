@@ -4,3 +4,4 @@ pub mod Compounds
 pub mod Atoms
 pub mod TextBook
 pub mod Part
+pub mod Names

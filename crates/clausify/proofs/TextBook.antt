@@ -63,8 +63,7 @@ module _ (n : ℕ) where
       atom e (inr q) = absurd (eqb-false y bot e q)
 
 pub calls-in-range : (T : List Entry) (n : ℕ) → named T ≤ n → All (AddsInRange n) (calls T)
-unfolding calls
-calls-in-range T n few = calls-of (AddsInRange n) (atomsOf T) T 0 (letterCount T) (λ i h. go _ (getD T i falsum) (unfold atomsOf in atom-below T n i few))
+calls-in-range T n few = calls-of (AddsInRange n) T (λ i h. go (atomAt T i) (getD T i falsum) (atom-below T n i few))
   where
     go : (x : ℕ) (e : Entry) → AtomOrBot n x → All (AddsInRange n) (entryCalls (atomsOf T) x e)
     go x (letter l) h = tt
