@@ -2,7 +2,7 @@
 use mathlib.Core.Bool.{cond}
 use mathlib.Core.List.{List, [], _∷_}
 use mathlib.Core.Logic.{_⊎_, inl, inr}
-use mathlib.Core.Path.{_≡_, refl, sym, ap}
+use mathlib.Core.Path.{_≡_, refl, sym, ap, subst}
 use Prim.Native.Nat.{ℕ, zero, suc, _+_, _≤_, _<_}
 use native.Mathlib.Decide.{decLt}
 use native.Mathlib.Omega.{arith}
@@ -65,6 +65,18 @@ atom-below T n i few = elim (decLt i (length T)) [
     inside (letter k) b = inl (omega (arith, b .1, letters-named T))
     inside falsum b = inr b
     inside (compound c p q) b = inl (omega (arith, b .1))
+
+-- ⊥ is the atom of ⊥ alone.
+pub falsum-bot : (T : List Entry) (i : ℕ) → i < length T → getD T i falsum ≡ falsum → atomAt T i ≡ bot
+falsum-bot T i h e = subst (λ (x : Entry). Between 0 (letterCount T) (letterCount T) (named T) x (atomAt T i)) e (atom-between T i h)
+
+pub bot-falsum : (T : List Entry) (i : ℕ) → named T ≤ 64 → i < length T → atomAt T i ≡ bot → getD T i falsum ≡ falsum
+bot-falsum T i few h e = go (getD T i falsum) (atom-between T i h)
+  where
+    go : (x : Entry) → Between 0 (letterCount T) (letterCount T) (named T) x (atomAt T i) → x ≡ falsum
+    go (letter k) b = absurd (omega (arith, b .1, letters-named T))
+    go falsum b = refl
+    go (compound c p q) b = absurd (omega (arith, b .1))
 
 -- ---- a part found by its atom
 

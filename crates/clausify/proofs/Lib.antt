@@ -5,3 +5,4 @@ pub mod Atoms
 pub mod TextBook
 pub mod Part
 pub mod Names
+pub mod Extension

@@ -9,19 +9,18 @@ use lib.Dec.{T}
 use lib.ListN.{length, getD}
 use Rattle.atoms.proofs.Truth.{false-T}
 use Rattle.ipl.specs.Lists.{All}
-use Rattle.ipl.specs.Clause.{bot}
 use Rattle.ipl.specs.Formula.{Formula}
 use Rattle.ipl.specs.Kripke.{Model, IsModel, forcesAtom, ForcesFlat, ForcesImplication, forces}
 use Rattle.ipl.proofs.Soundness.{bot-unforced}
 use Rattle.syntax.specs.Grammar.{Tree}
-use Rattle.syntax.specs.Nodes.{Connective, And, Or, Implies, Entry, letter, falsum, compound, nodes, named, connected, entryFormula, formulasAfter, formulaAt, Earlier, WellOrdered}
+use Rattle.syntax.specs.Nodes.{Connective, And, Or, Implies, Entry, letter, falsum, compound, nodes, connected, entryFormula, formulasAfter, formulaAt, Earlier, WellOrdered}
 use Rattle.syntax.proofs.Letters.{LettersOnce, letters-once}
 use Rattle.syntax.proofs.Stands.{row-formula, table-ordered}
-use Rattle.clausify.specs.Naming.{letterCount, atomsOf, atomAt, calls}
+use Rattle.clausify.specs.Naming.{atomsOf, atomAt, calls}
 use Rattle.clausify.specs.Additions.{flatsBy, implicationsBy}
 use Rattle.clausify.specs.Demand.{onLetters}
 use Rattle.clausify.proofs.Compounds.{entryCalls, calls-at}
-use Rattle.clausify.proofs.Atoms.{Between, atom-between}
+use Rattle.clausify.proofs.Atoms.{falsum-bot}
 use Rattle.clausify.proofs.Part.{ForcesCall, calls-forced, Same, Joined, clauses-name}
 
 -- The same worlds with other sets.
@@ -35,10 +34,6 @@ joined-forces m holds And p q v = refl
 joined-forces m holds Or p q v = refl
 joined-forces m holds Implies p q v = refl
 
--- The atom of an entry ⊥.
-pub falsum-atom : (E : List Entry) (i : ℕ) → i < length E → getD E i falsum ≡ falsum → atomAt E i ≡ bot
-falsum-atom E i l e = subst (λ (x : Entry). Between 0 (letterCount E) (letterCount E) (named E) x (atomAt E i)) e (atom-between E i l)
-
 module _ (E : List Entry) (ordered : WellOrdered E) (once : LettersOnce E) (m : Model) (ok : IsModel m) (h : All (ForcesCall m) (calls E)) where
   abbrev There : ℕ → Type 0
   There i = Same m (atomAt E i) (λ v. forces (onLetters E m) v (formulaAt E i))
@@ -47,7 +42,7 @@ module _ (E : List Entry) (ordered : WellOrdered E) (once : LettersOnce E) (m : 
       → Same m (atomAt E i) (λ v. forces (onLetters E m) v (entryFormula (formulasAfter [] E) e))
   unfolding entryFormula forces formulaAt
   entry-there i l ih (letter s) q v lv = rw (once i s l q) (λ t. t, λ t. t)
-  entry-there i l ih falsum q v lv = (λ t. false-T (bot-unforced m v) (subst (λ (x : ℕ). T (forcesAtom m v x)) (falsum-atom E i l q) t), λ t. absurd t)
+  entry-there i l ih falsum q v lv = (λ t. false-T (bot-unforced m v) (subst (λ (x : ℕ). T (forcesAtom m v x)) (falsum-bot E i l q) t), λ t. absurd t)
   entry-there i l ih (compound c a b) q v lv =
       let early : (a < i) × (b < i) = subst (Earlier i) q (ordered i l) in
       subst (λ (X : Type 0). T (forcesAtom m v (atomAt E i)) ↔ X) (joined-forces m (onLetters E m .holds) c (formulaAt E a) (formulaAt E b) v)

@@ -116,24 +116,24 @@ module _ (m : Model) (ok : IsModel m) where
   unfolding clause
   clause-forced left right = (
     λ h v lv t.
-    let forced : All (ForcesCall m) (cond false [] (addFlat (record { left = setOf left; right = setOf right }) ∷ [])) =
+        let forced : All (ForcesCall m) (cond false [] (addFlat (record { left = setOf left; right = setOf right }) ∷ [])) =
         subst (λ (b : Bool). All (ForcesCall m) (cond b [] (addFlat (record { left = setOf left; right = setOf right }) ∷ []))) (no-bot m v left t) h in
-    set-some m v right (forced .0 v lv (ok .least v lv) (every-set m v left t)),
+        set-some m v right (forced .0 v lv (ok .least v lv) (every-set m v left t)),
     λ f. by-cond (All (ForcesCall m)) (any (eqb bot) left) [] (addFlat (record { left = setOf left; right = setOf right }) ∷ []) (λ e. tt)
-    (λ e. (λ v lv l h. some-set m v right (f v lv (set-every m v left e h)), tt)),
+        (λ e. (λ v lv l h. some-set m v right (f v lv (set-every m v left e h)), tt)),
   )
 
   three-forced : (l r l2 r2 l3 r3 : List ℕ) → All (ForcesCall m) (clause l r ++ clause l2 r2 ++ clause l3 r3) ↔ (Reads m l r × Reads m l2 r2 × Reads m l3 r3)
   three-forced l r l2 r2 l3 r3 = (
     λ h.
-    let k = All-left (ForcesCall m) (clause l r ++ clause l2 r2) (clause l3 r3) h in (
-      clause-forced l r .0 (All-left (ForcesCall m) (clause l r) (clause l2 r2) k),
-      clause-forced l2 r2 .0 (All-right (ForcesCall m) (clause l r) (clause l2 r2) k),
-      clause-forced l3 r3 .0 (All-right (ForcesCall m) (clause l r ++ clause l2 r2) (clause l3 r3) h),
-    ),
+        let k = All-left (ForcesCall m) (clause l r ++ clause l2 r2) (clause l3 r3) h in (
+          clause-forced l r .0 (All-left (ForcesCall m) (clause l r) (clause l2 r2) k),
+          clause-forced l2 r2 .0 (All-right (ForcesCall m) (clause l r) (clause l2 r2) k),
+          clause-forced l3 r3 .0 (All-right (ForcesCall m) (clause l r ++ clause l2 r2) (clause l3 r3) h),
+        ),
     λ h.
-    All-append (ForcesCall m) (clause l r ++ clause l2 r2) (clause l3 r3)
-    (All-append (ForcesCall m) (clause l r) (clause l2 r2) (clause-forced l r .1 (h .0)) (clause-forced l2 r2 .1 (h .1))) (clause-forced l3 r3 .1 (h .2)),
+        All-append (ForcesCall m) (clause l r ++ clause l2 r2) (clause l3 r3)
+        (All-append (ForcesCall m) (clause l r) (clause l2 r2) (clause-forced l r .1 (h .0)) (clause-forced l2 r2 .1 (h .1))) (clause-forced l3 r3 .1 (h .2)),
   )
 
   only : (v x : ℕ) → Some m v (x ∷ []) → T (forcesAtom m v x)
