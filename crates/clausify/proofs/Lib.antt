@@ -6,3 +6,4 @@ pub mod TextBook
 pub mod Part
 pub mod Names
 pub mod Extension
+pub mod DemandTwo

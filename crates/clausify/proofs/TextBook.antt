@@ -16,8 +16,10 @@ use Rattle.ipl.specs.Lists.{any, All}
 use Rattle.ipl.specs.Clause.{bot, one, Flat, Implication, closing, closings}
 use Rattle.ipl.specs.Range.{atomOrBot}
 use Rattle.ipl.specs.Book.{Call, addFlat, addImplication, countInRange, opened}
+use Rattle.ipl.specs.Demand.{Claims}
 use Rattle.ipl.proofs.Lists.{All-append, All-map}
 use Rattle.ipl.proofs.Range.{AtomOrBot, one-below, flat-in-range, atom-in-range, implication-in-range}
+use Rattle.ipl.proofs.Book.{Reached, opened-reached, after-reached, claims}
 use Rattle.syntax.specs.Grammar.{Tree}
 use Rattle.syntax.specs.Nodes.{Connective, And, Or, Implies, Entry, letter, falsum, compound, nodes, named}
 use Rattle.clausify.specs.Naming.{letterCount, atomsOf, atomAt, setOf, clause, partCalls, callsFrom, calls, atomCount, textBook, goalOf}
@@ -165,3 +167,11 @@ module _ (t : Tree) (few : named (nodes t .table) ≤ 64) where
   pub goal-in-range : T (atomOrBot (atomCount (nodes t .table)) (goalOf t))
   unfolding goalOf
   goal-in-range = atom-in-range (named (nodes t .table)) (atomCount (nodes t .table)) (goalOf t) atoms-enough (atom-below (nodes t .table) (named (nodes t .table)) (nodes t .root) (omega arith))
+
+-- Demand 3 reaches a text's session: an opening and additions lead to its book.
+pub text-reached : (t : Tree) → Reached (textBook t)
+unfolding textBook
+text-reached t = after-reached (calls (nodes t .table)) (opened (atomCount (nodes t .table))) (opened-reached (atomCount (nodes t .table)))
+
+pub text-claims : (t : Tree) (cs : List Call) → Claims (textBook t) cs
+text-claims t cs = claims cs (textBook t) (text-reached t)

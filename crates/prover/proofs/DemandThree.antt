@@ -154,7 +154,7 @@ module _ (s : Session) (in-range : inRange s ≡ true) (r : Reached (book s)) wh
     )
     kept unfinished e h a = absurd a
 
-    asked-as : AskedAs s g (outcome s g) x → AskedAs s g (answer (book s) g) x
+    pub asked-as : AskedAs s g (outcome s g) x → AskedAs s g (answer (book s) g) x
     asked-as a = subst (λ (b : Bool). AskedAs s g (cond b (answer (book s) g) (refused 5)) x) in-range a
 
   -- ---- each call
