@@ -2,7 +2,6 @@
 use mathlib.Core.List.{List, []}
 use mathlib.Core.Logic.{_↔_}
 use mathlib.Core.Path.{_≡_, refl, sym, subst}
-use mathlib.Core.Bool.{Bool}
 use Prim.Native.Nat.{ℕ, zero, suc, _<_}
 use native.Mathlib.Omega.{arith}
 use lib.Dec.{T}
@@ -13,7 +12,7 @@ use Rattle.ipl.specs.Formula.{Formula}
 use Rattle.ipl.specs.Kripke.{Model, IsModel, forcesAtom, ForcesFlat, ForcesImplication, forces}
 use Rattle.ipl.proofs.Soundness.{bot-unforced}
 use Rattle.syntax.specs.Grammar.{Tree}
-use Rattle.syntax.specs.Nodes.{Connective, And, Or, Implies, Entry, letter, falsum, compound, nodes, connected, entryFormula, formulasAfter, formulaAt, Earlier, WellOrdered}
+use Rattle.syntax.specs.Nodes.{Entry, letter, falsum, compound, nodes, entryFormula, formulasAfter, formulaAt, Earlier, WellOrdered}
 use Rattle.syntax.proofs.Letters.{LettersOnce, letters-once}
 use Rattle.syntax.proofs.Stands.{row-formula, table-ordered}
 use Rattle.clausify.specs.Naming.{atomsOf, atomAt, calls}
@@ -21,18 +20,7 @@ use Rattle.clausify.specs.Additions.{flatsBy, implicationsBy}
 use Rattle.clausify.specs.Demand.{onLetters}
 use Rattle.clausify.proofs.Compounds.{entryCalls, calls-at}
 use Rattle.clausify.proofs.Atoms.{falsum-bot}
-use Rattle.clausify.proofs.Part.{ForcesCall, calls-forced, Same, Joined, clauses-name}
-
--- The same worlds with other sets.
-abbrev pub withSets : Model → (ℕ → ℕ → Bool) → Model
-withSets m holds = record { count = m .count; root = m .root; le = m .le; holds = holds }
-
-pub joined-forces : (m : Model) (holds : ℕ → ℕ → Bool) (c : Connective) (p q : Formula) (v : ℕ)
-    → _≡_ {A = Type 0} (Joined m c (λ u. forces (withSets m holds) u p) (λ u. forces (withSets m holds) u q) v) (forces (withSets m holds) v (connected c p q))
-unfolding forces connected
-joined-forces m holds And p q v = refl
-joined-forces m holds Or p q v = refl
-joined-forces m holds Implies p q v = refl
+use Rattle.clausify.proofs.Part.{ForcesCall, calls-forced, Same, joined-forces, clauses-name}
 
 module _ (E : List Entry) (ordered : WellOrdered E) (once : LettersOnce E) (m : Model) (ok : IsModel m) (h : All (ForcesCall m) (calls E)) where
   abbrev There : ℕ → Type 0

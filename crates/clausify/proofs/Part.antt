@@ -11,12 +11,13 @@ use Rattle.atoms.proofs.Truth.{T-or, T-inl, T-inr, T-false, false-T, nor, by-co
 use Rattle.atoms.proofs.Members.{has-empty, has-single, has-union}
 use Rattle.ipl.specs.Lists.{any, All}
 use Rattle.ipl.specs.Clause.{bot, one, closing, closings}
-use Rattle.ipl.specs.Kripke.{Model, IsModel, From, forcesAtom, ForcesEvery, ForcesSome, ForcesFlat, ForcesImplication}
+use Rattle.ipl.specs.Formula.{Formula}
+use Rattle.ipl.specs.Kripke.{Model, IsModel, From, forcesAtom, ForcesEvery, ForcesSome, ForcesFlat, ForcesImplication, forces}
 use Rattle.ipl.specs.Book.{Call, addFlat, addImplication, question}
 use Rattle.ipl.proofs.Lists.{All-append, All-left, All-right}
 use Rattle.ipl.proofs.Range.{has-one}
 use Rattle.ipl.proofs.Soundness.{bot-unforced, some-one, atom-persists}
-use Rattle.syntax.specs.Nodes.{Connective, And, Or, Implies}
+use Rattle.syntax.specs.Nodes.{Connective, And, Or, Implies, connected}
 use Rattle.clausify.specs.Naming.{setOf, clause, partCalls}
 use Rattle.clausify.specs.Additions.{flatsBy, implicationsBy}
 
@@ -110,6 +111,17 @@ abbrev pub Joined : Model → Connective → (ℕ → Type 0) → (ℕ → Type 
 Joined m And P Q v = P v × Q v
 Joined m Or P Q v = P v ⊎ Q v
 Joined m Implies P Q v = From m v (λ u. P u → Q u)
+
+-- The same worlds with other sets.
+abbrev pub withSets : Model → (ℕ → ℕ → Bool) → Model
+withSets m holds = record { count = m .count; root = m .root; le = m .le; holds = holds }
+
+pub joined-forces : (m : Model) (holds : ℕ → ℕ → Bool) (c : Connective) (p q : Formula) (v : ℕ)
+    → _≡_ {A = Type 0} (Joined m c (λ u. forces (withSets m holds) u p) (λ u. forces (withSets m holds) u q) v) (forces (withSets m holds) v (connected c p q))
+unfolding forces connected
+joined-forces m holds And p q v = refl
+joined-forces m holds Or p q v = refl
+joined-forces m holds Implies p q v = refl
 
 module _ (m : Model) (ok : IsModel m) where
   clause-forced : (left right : List ℕ) → All (ForcesCall m) (clause left right) ↔ Reads m left right

@@ -11,6 +11,7 @@ pub mod Operand
 pub mod Join
 pub mod Beginning
 pub mod Unique
+pub mod Growth
 pub mod Names
 pub mod Stands
 pub mod Letters
