@@ -6,12 +6,13 @@ use Prim.Native.Nat.{ℕ, _+_, _≤_}
 use native.Mathlib.Omega.{arith}
 use lib.Dec.{T, eqb, leb}
 use lib.ListN.{length, length-append}
-use borrow.Author.Tests.{lt-leb, eq-eqb}
+use borrow.Author.Tests.{lt-leb}
 use Rattle.atoms.proofs.Truth.{T-true}
 use Rattle.ipl.specs.Lists.{All}
 use Rattle.ipl.specs.Clause.{bot, Flat, Implication, closing, closings}
 use Rattle.ipl.specs.Range.{flatTable, implicationTable, flatInRange, implicationInRange}
 use Rattle.ipl.specs.Book.{Book, Call, addFlat, addImplication, question, flatsFull, flatRefusal, implicationRefusal, refusal, taken, next, after}
+use Rattle.ipl.proofs.Book.{next-taken}
 use Rattle.clausify.specs.Additions.{flatsBy, implicationsBy, Unrefused}
 
 -- An addition, and no question; one whose numbers are in range over n atoms.
@@ -42,11 +43,6 @@ implicationsBy-append [] ds = refl
 implicationsBy-append (addFlat f ∷ cs) ds = implicationsBy-append cs ds
 implicationsBy-append (addImplication i ∷ cs) ds = ap (λ (X : List Implication). i ∷ X) (implicationsBy-append cs ds)
 implicationsBy-append (question g ∷ cs) ds = implicationsBy-append cs ds
-
--- A call that is not refused is taken.
-next-taken : (k : Book) (c : Call) → refusal k c ≡ 0 → next k c ≡ taken k c
-unfolding next
-next-taken k c e = rw (eq-eqb (refusal k c) 0 e)
 
 -- One addition, then the others.
 added-first : (c : Call) (k : Book) (cs : List Call) → IsAddition c → withAdded (taken k c) cs ≡ withAdded k (c ∷ cs)

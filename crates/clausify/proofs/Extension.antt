@@ -18,7 +18,8 @@ use Rattle.clausify.specs.Naming.{atomsOf, atomAt, calls}
 use Rattle.clausify.specs.Additions.{flatsBy, implicationsBy}
 use Rattle.clausify.proofs.Compounds.{entryCalls, calls-of}
 use Rattle.clausify.proofs.Atoms.{bot-falsum, partWith, part-found}
-use Rattle.clausify.proofs.Part.{ForcesCall, calls-forced, Same, withSets, joined-forces, name-clauses}
+use Rattle.clausify.proofs.Clauses.{ForcesCall, calls-forced}
+use Rattle.clausify.proofs.Part.{Same, withSets, joined-forces, name-clauses}
 
 -- The atom x is where the part with that atom is forced.
 abbrev pub extended : List Entry → Model → Model

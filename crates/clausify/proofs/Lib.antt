@@ -2,7 +2,10 @@
 pub mod Additions
 pub mod Compounds
 pub mod Atoms
+pub mod Ranges
+pub mod Sizes
 pub mod TextBook
+pub mod Clauses
 pub mod Part
 pub mod Names
 pub mod Extension

@@ -6,11 +6,10 @@ use Prim.Native.Nat.{ℕ, zero, suc, _<_}
 use native.Mathlib.Omega.{arith}
 use lib.Dec.{T}
 use lib.ListN.{length, getD}
-use Rattle.atoms.proofs.Truth.{false-T}
 use Rattle.ipl.specs.Lists.{All}
 use Rattle.ipl.specs.Formula.{Formula}
 use Rattle.ipl.specs.Kripke.{Model, IsModel, forcesAtom, ForcesFlat, ForcesImplication, forces}
-use Rattle.ipl.proofs.Soundness.{bot-unforced}
+use Rattle.ipl.proofs.Soundness.{forced-atom}
 use Rattle.syntax.specs.Grammar.{Tree}
 use Rattle.syntax.specs.Nodes.{Entry, letter, falsum, compound, nodes, entryFormula, formulasAfter, formulaAt, Earlier, WellOrdered}
 use Rattle.syntax.proofs.Letters.{LettersOnce, letters-once}
@@ -20,7 +19,8 @@ use Rattle.clausify.specs.Additions.{flatsBy, implicationsBy}
 use Rattle.clausify.specs.Demand.{onLetters}
 use Rattle.clausify.proofs.Compounds.{entryCalls, calls-at}
 use Rattle.clausify.proofs.Atoms.{falsum-bot}
-use Rattle.clausify.proofs.Part.{ForcesCall, calls-forced, Same, joined-forces, clauses-name}
+use Rattle.clausify.proofs.Clauses.{ForcesCall, calls-forced}
+use Rattle.clausify.proofs.Part.{Same, joined-forces, clauses-name}
 
 module _ (E : List Entry) (ordered : WellOrdered E) (once : LettersOnce E) (m : Model) (ok : IsModel m) (h : All (ForcesCall m) (calls E)) where
   abbrev There : ℕ → Type 0
@@ -30,7 +30,7 @@ module _ (E : List Entry) (ordered : WellOrdered E) (once : LettersOnce E) (m : 
       → Same m (atomAt E i) (λ v. forces (onLetters E m) v (entryFormula (formulasAfter [] E) e))
   unfolding entryFormula forces formulaAt
   entry-there i l ih (letter s) q v lv = rw (once i s l q) (λ t. t, λ t. t)
-  entry-there i l ih falsum q v lv = (λ t. false-T (bot-unforced m v) (subst (λ (x : ℕ). T (forcesAtom m v x)) (falsum-bot E i l q) t), λ t. absurd t)
+  entry-there i l ih falsum q v lv = (λ t. forced-atom m v (atomAt E i) t (falsum-bot E i l q), λ t. absurd t)
   entry-there i l ih (compound c a b) q v lv =
       let early : (a < i) × (b < i) = subst (Earlier i) q (ordered i l) in
       subst (λ (X : Type 0). T (forcesAtom m v (atomAt E i)) ↔ X) (joined-forces m (onLetters E m .holds) c (formulaAt E a) (formulaAt E b) v)

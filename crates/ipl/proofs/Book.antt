@@ -8,7 +8,7 @@ use native.Mathlib.Nat.{le-trans}
 use native.Mathlib.Omega.{arith}
 use lib.Dec.{T, eqb, leb, leb→le, eqb-refl}
 use lib.ListN.{length, length-append}
-use borrow.Author.Tests.{leb-false, eqb-true, ne-eqb}
+use borrow.Author.Tests.{leb-false, eqb-true, eq-eqb, ne-eqb}
 use Rattle.atoms.specs.Sets.{limit}
 use Rattle.atoms.proofs.Machine.{limit-small, one-in-limit}
 use Rattle.atoms.proofs.Truth.{T-left, T-right, T-and, T-or, T-inl, T-inr, T-true, true-T, false-T, by-cond}
@@ -286,6 +286,11 @@ pub after-reached : (cs : List Call) (k : Book) → Reached k → Reached (after
 unfolding after
 after-reached [] k r = r
 after-reached (c ∷ cs) k r = after-reached cs _ (next-reached k c r)
+
+-- A call that is not refused is taken; one that is changes nothing.
+pub next-taken : (k : Book) (c : Call) → refusal k c ≡ 0 → next k c ≡ taken k c
+unfolding next
+next-taken k c e = rw (eq-eqb (refusal k c) 0 e)
 
 refused-unchanged : (k : Book) (c : Call) → (refusal k c ≡ 0 → ⊥) → next k c ≡ k
 unfolding next

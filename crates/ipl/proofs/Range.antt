@@ -1,17 +1,17 @@
 -- Numbers in range, as statements.
 use mathlib.Core.Bool.{false, _&&_}
 use mathlib.Core.Logic.{_⊎_, inl, inr}
-use mathlib.Core.Path.{_≡_, subst}
+use mathlib.Core.Path.{_≡_, sym, subst}
 use Prim.Native.Nat.{ℕ, _^_, _≤_, _<_}
 use native.Mathlib.Omega.{arith}
-use lib.Dec.{T, eqb, ltb, eqb→eq, ltb→lt, lt→ltb}
+use lib.Dec.{T, eqb, ltb, eqb→eq, eqb-refl, ltb→lt, lt→ltb}
 use lib.Pow.{pow-pos, pow-lt}
 use Rattle.atoms.specs.Sets.{has, single}
 use Rattle.atoms.proofs.Truth.{T-left, T-right, T-and, T-or, T-inl, T-inr, true-T, false-T, by-cond}
 use Rattle.atoms.proofs.Members.{has-empty, has-single}
 use Rattle.ipl.specs.Clause.{bot, one, Flat, Implication}
 use Rattle.ipl.specs.Range.{atomOrBot, setInRange, flatInRange, implicationInRange}
-use borrow.Author.Tests.{eqb-false, eq-eqb}
+use borrow.Author.Tests.{eqb-false, eq-eqb, ne-eqb}
 
 abbrev pub AtomOrBot : ℕ → ℕ → Type 0
 AtomOrBot n x = (x < n) ⊎ (x ≡ bot)
@@ -60,6 +60,10 @@ unfolding one
 has-one x j =
     by-cond (λ s. T (has s j) → x ≡ j) (eqb x bot) 0 (single x)
     (λ e t. absurd (false-T (has-empty j) t)) (λ e t. eqb→eq x j (subst T (has-single x j) t))
+
+pub one-has : (x : ℕ) → (x ≡ bot → ⊥) → T (has (one x) x)
+unfolding one
+one-has x d = rw (ne-eqb x bot d) (subst T (sym (has-single x x)) (eqb-refl x))
 
 pub one-in-range : (n x : ℕ) → AtomOrBot n x → T (setInRange n (one x))
 unfolding setInRange
