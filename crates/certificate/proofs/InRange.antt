@@ -1,20 +1,17 @@
 -- What a problem and a claim in range have, part by part.
 use mathlib.Core.Bool.{Bool, true, _&&_}
-use mathlib.Core.Logic.{inl, inr}
 use mathlib.Core.Path.{_≡_}
 use Prim.Native.Nat.{ℕ, _≤_}
-use native.Mathlib.Omega.{arith}
-use lib.Dec.{T, eqb, leb, ltb, leb→le, le→leb, lt→ltb}
+use lib.Dec.{T, leb, leb→le, le→leb}
 use lib.ListN.{length}
-use borrow.Author.Tests.{eq-eqb}
 use Rattle.atoms.specs.Sets.{limit}
-use Rattle.atoms.proofs.Truth.{T-left, T-right, T-and, T-inl, T-inr, T-true, true-T}
+use Rattle.atoms.proofs.Truth.{T-left, T-right, T-and, T-true}
 use Rattle.ipl.specs.Lists.{all, All}
-use Rattle.ipl.specs.Clause.{bot, Implication}
+use Rattle.ipl.specs.Clause.{Implication}
 use Rattle.ipl.specs.Range.{flatTable, implicationTable, atomOrBot, flatInRange, implicationInRange}
 use Rattle.ipl.specs.Book.{countInRange}
 use Rattle.ipl.proofs.Lists.{all-All, All-all, All-map}
-use Rattle.ipl.proofs.Range.{AtomOrBot, implication-below}
+use Rattle.ipl.proofs.Range.{implication-below, implication-in-range}
 use Rattle.certificate.specs.Certificate.{Problem, Claim}
 use Rattle.certificate.specs.Judge.{claimInRange, countsInRange, inRange}
 
@@ -82,18 +79,8 @@ module _ (p : Problem) (c : Claim) where
 
 -- ---- in range over more atoms
 
-wider-atom : (n m x : ℕ) → n ≤ m → AtomOrBot n x → T (atomOrBot m x)
-unfolding atomOrBot
-wider-atom n m x h (inl l) = T-inl (ltb x m) (eqb x bot) (lt→ltb x m (omega arith))
-wider-atom n m x h (inr e) = T-inr (ltb x m) (eqb x bot) (true-T (eq-eqb x bot e))
-
 wider-implication : (n m : ℕ) → n ≤ m → (i : Implication) → T (implicationInRange n i) → T (implicationInRange m i)
-unfolding implicationInRange
-wider-implication n m h i t =
-    let r = implication-below n i t in
-    T-and (ltb (i .a) m && atomOrBot m (i .b)) (atomOrBot m (i .c))
-    (T-and (ltb (i .a) m) (atomOrBot m (i .b)) (lt→ltb (i .a) m (omega (arith, r .a))) (wider-atom n m (i .b) h (r .b)))
-    (wider-atom n m (i .c) h (r .c))
+wider-implication n m h i t = implication-in-range n m h i (implication-below n i t)
 
 pub implications-below-limit : (p : Problem) (c : Claim) → T (inRange p c) → all (implicationInRange limit) (p .implications) ≡ true
 implications-below-limit p c t =

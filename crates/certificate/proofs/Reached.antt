@@ -1,5 +1,5 @@
 -- Every verdict of a book reached by calls makes a right problem and claim, so its certificate is accepted and reads back.
-use mathlib.Core.List.{List, [], _∷_}
+use mathlib.Core.List.{List, []}
 use mathlib.Core.Option.{Option, none, some}
 use mathlib.Core.Path.{_≡_, subst}
 use Prim.Native.Nat.{ℕ, _^_, _≤_}
@@ -18,7 +18,7 @@ use Rattle.ipl.proofs.Range.{implication-below}
 use Rattle.ipl.proofs.Steps.{right-steps-in-range}
 use Rattle.ipl.proofs.Search.{OutcomeRight, search-right}
 use Rattle.ipl.proofs.Limits.{Fits, search-fits}
-use Rattle.ipl.proofs.Book.{Reached, opened-reached, next-reached}
+use Rattle.ipl.proofs.Book.{Reached, opened-reached, after-reached}
 use Rattle.certificate.specs.Certificate as certificate
 use Rattle.certificate.specs.Certificate.{Claim, accepted}
 use Rattle.certificate.specs.Format.{encode, longest}
@@ -74,11 +74,6 @@ reached-right k r g c e = subst (ClaimMade k g) e
     (search-right (k .n) (k .flats) (k .implications) g (k .steps) (All-map (k .implications) (implication-below (k .n)) (r .well-formed .implications)) (r .well-formed .steps) (r .witnessed))
     (search-fits (k .n) (k .flats) (k .implications) g (k .steps) (r .well-formed .step-count)))
     (λ t. tt))
-
-after-reached : (cs : List Call) (k : Book) → Reached k → Reached (after k cs)
-unfolding after
-after-reached [] k r = r
-after-reached (c ∷ cs) k r = after-reached cs _ (next-reached k c r)
 
 -- "Every sheet written from a session opened by us and changed only through its calls is accepted and reads back as the problem
 -- and answer it came from": for every n, every list of calls and every question after it.

@@ -8,17 +8,17 @@ use native.Mathlib.Nat.{le-trans}
 use native.Mathlib.Omega.{arith}
 use lib.Dec.{T, eqb, leb, leb→le, eqb-refl}
 use lib.ListN.{length, length-append}
-use borrow.Author.Tests.{leb-false, eqb-true, ne-eqb}
+use borrow.Author.Tests.{leb-false, eqb-true, eq-eqb, ne-eqb}
 use Rattle.atoms.specs.Sets.{limit}
 use Rattle.atoms.proofs.Machine.{limit-small, one-in-limit}
-use Rattle.atoms.proofs.Truth.{T-left, T-right, T-and, T-or, T-inl, T-inr, true-T, false-T, by-cond}
+use Rattle.atoms.proofs.Truth.{T-left, T-right, T-and, T-or, T-inl, T-inr, T-true, true-T, false-T, by-cond}
 use Rattle.ipl.specs.Lists.{any, All}
 use Rattle.ipl.specs.Clause.{bot, one, Flat, Implication, closing, closings, sameFlat, closed}
 use Rattle.ipl.specs.Range.{flatTable, implicationTable, stepTable, atomOrBot, setInRange, flatInRange, implicationInRange}
 use Rattle.ipl.specs.Search.{Step, State, Outcome, valid, refuted, refused, unfinished, NeedsNoMore, start, search}
 use Rattle.ipl.specs.Kripke.{Model, shown}
 use Rattle.ipl.specs.Claim.{Countermodel, StepsRight}
-use Rattle.ipl.specs.Book.{Book, Call, addFlat, addImplication, question, countInRange, opened, flatsFull, flatRefusal, implicationRefusal, answer, refusal, stepsAfter, taken, next}
+use Rattle.ipl.specs.Book.{Book, Call, addFlat, addImplication, question, countInRange, opened, flatsFull, flatRefusal, implicationRefusal, answer, refusal, stepsAfter, taken, next, after}
 use Rattle.ipl.specs.Demand.{isValid, isRefuted, isVerdict, worldsOf, Settled, WellFormed, Answered, Claims}
 use Rattle.ipl.proofs.Lists.{All-map, All-append, any-left, any-last}
 use Rattle.ipl.proofs.Range.{AtomOrBot, ImplicationBelow, atom-or-bot, flat-below, implication-below, one-in-range}
@@ -26,7 +26,7 @@ use Rattle.ipl.proofs.PropositionTwo.{refuting-countermodel}
 use Rattle.ipl.proofs.Steps.{steps-more, step-numbers, clauses-same, derivation-sound}
 use Rattle.ipl.proofs.Witness.{Witnessed, witnessed-none, witnessed-same}
 use Rattle.ipl.proofs.Search.{OutcomeRight, search-right}
-use Rattle.ipl.proofs.Limits.{Fits, search-fits, verdict-iff-needs-no-more, eight-atoms}
+use Rattle.ipl.proofs.Limits.{Fits, Ended, search-ends, search-fits, verdict-iff-needs-no-more, eight-atoms}
 
 -- What every book reached holds, and the witnesses of its steps.
 pub record Reached (k : Book) : Type 0 where
@@ -258,12 +258,16 @@ module _ (k : Book) (g : ℕ) (r : Reached k) where
     settled unfinished h v =
         record { valid-iff = λ t. absurd t; refuted-iff = λ t. absurd t; shown-one = λ t. absurd t; verdict-iff = v; eight = eight }
 
-  question-settled : T (atomOrBot (k .n) g) → Settled k g (answer k g)
+  pub question-settled : T (atomOrBot (k .n) g) → Settled k g (answer k g)
   unfolding answer
   question-settled t =
       by-cond (Settled k g) (atomOrBot (k .n) g) outcome (refused 6)
       (λ _. settled (atom-or-bot (k .n) g t) outcome outcome-right (verdict-iff-needs-no-more (k .n) (k .flats) (k .implications) g (k .steps) (r .well-formed .step-count)))
       (λ e. absurd (false-T e t))
+
+  pub question-ended : T (atomOrBot (k .n) g) → Ended (answer k g)
+  unfolding answer
+  question-ended t = rw (T-true (atomOrBot (k .n) g) t) (search-ends (k .n) (k .flats) (k .implications) g (k .steps))
 
 -- ---- every call, and every list of calls
 
@@ -277,6 +281,16 @@ pub next-reached : (k : Book) (c : Call) → Reached k → Reached (next k c)
 unfolding next
 next-reached k c r =
     by-cond Reached (eqb (refusal k c) 0) (taken k c) k (λ e. taken-reached k c r (eqb-true (refusal k c) 0 e)) (λ _. r)
+
+pub after-reached : (cs : List Call) (k : Book) → Reached k → Reached (after k cs)
+unfolding after
+after-reached [] k r = r
+after-reached (c ∷ cs) k r = after-reached cs _ (next-reached k c r)
+
+-- A call that is not refused is taken; one that is changes nothing.
+pub next-taken : (k : Book) (c : Call) → refusal k c ≡ 0 → next k c ≡ taken k c
+unfolding next
+next-taken k c e = rw (eq-eqb (refusal k c) 0 e)
 
 refused-unchanged : (k : Book) (c : Call) → (refusal k c ≡ 0 → ⊥) → next k c ≡ k
 unfolding next

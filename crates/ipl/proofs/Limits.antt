@@ -1,7 +1,7 @@
 -- Theorems 4 and 5, the limits: the search never runs out of turns; it ends in a verdict exactly if it needs neither a 257th
 -- world nor a 513th step; and over eight atoms or fewer it needs neither.
 use mathlib.Core.List.{List, [], _∷_}
-use mathlib.Core.Logic.{_↔_}
+use mathlib.Core.Logic.{_⊎_, _↔_, inl, inr}
 use mathlib.Core.Option.{Option, none, some}
 use mathlib.Core.Path.{_≡_, refl, subst}
 use Prim.Native.Nat.{ℕ, zero, suc, _+_, _-_, _*_, _^_, _≤_, _<_, zero-le}
@@ -48,17 +48,18 @@ abbrev TurnFits : Turn → Type 0
 TurnFits (done o) = Fits o
 TurnFits (more s) = Unit {0}
 
+-- In a verdict, or in a refusal of the search's own.
 abbrev pub Ended : Outcome → Type 0
 Ended (valid s) = Unit {0}
 Ended (refuted s) = Unit {0}
-Ended (refused number) = Unit {0}
+Ended (refused number) = (number ≡ 11) ⊎ (number ≡ 12)
 Ended unfinished = ⊥
 
 verdict-ended : (o : Outcome) → T (isVerdict o) → Ended o
 unfolding isValid isRefuted
 verdict-ended (valid s) t = tt
 verdict-ended (refuted s) t = tt
-verdict-ended (refused number) t = tt
+verdict-ended (refused number) t = absurd t
 verdict-ended unfinished t = t
 
 module _ (n : ℕ) (F : List Flat) (X : List Implication) (g : ℕ) where
@@ -123,7 +124,7 @@ module _ (n : ℕ) (F : List Flat) (X : List Implication) (g : ℕ) where
     where
       go : (t : Turn) → Closer (s .steps) (s .worlds) t → ((t : State) → left (t .steps) (t .worlds) < turns → Ended (run n F X g turns t)) → Ended (goOn (run n F X g turns) t)
       go (done o) c ih = rw (go-on-done (run n F X g turns) o) (verdict-ended o c)
-      go (more t) c ih = go-on-by Ended (run n F X g turns) t (λ _. tt) (λ _. tt) (λ w. ih t (omega (arith, c w)))
+      go (more t) c ih = go-on-by Ended (run n F X g turns) t (λ _. inl refl) (λ _. inr refl) (λ w. ih t (omega (arith, c w)))
 
   pub search-ends : (H : List Step) → Ended (search n F X g H)
   unfolding search left

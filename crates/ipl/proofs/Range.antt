@@ -1,16 +1,17 @@
 -- Numbers in range, as statements.
 use mathlib.Core.Bool.{false, _&&_}
 use mathlib.Core.Logic.{_⊎_, inl, inr}
-use mathlib.Core.Path.{_≡_, subst}
-use Prim.Native.Nat.{ℕ, _^_, _<_}
-use lib.Dec.{T, eqb, ltb, eqb→eq, ltb→lt, lt→ltb}
+use mathlib.Core.Path.{_≡_, sym, subst}
+use Prim.Native.Nat.{ℕ, _^_, _≤_, _<_}
+use native.Mathlib.Omega.{arith}
+use lib.Dec.{T, eqb, ltb, eqb→eq, eqb-refl, ltb→lt, lt→ltb}
 use lib.Pow.{pow-pos, pow-lt}
 use Rattle.atoms.specs.Sets.{has, single}
-use Rattle.atoms.proofs.Truth.{T-left, T-right, T-or, false-T, by-cond}
+use Rattle.atoms.proofs.Truth.{T-left, T-right, T-and, T-or, T-inl, T-inr, true-T, false-T, by-cond}
 use Rattle.atoms.proofs.Members.{has-empty, has-single}
 use Rattle.ipl.specs.Clause.{bot, one, Flat, Implication}
 use Rattle.ipl.specs.Range.{atomOrBot, setInRange, flatInRange, implicationInRange}
-use borrow.Author.Tests.{eqb-false}
+use borrow.Author.Tests.{eqb-false, eq-eqb, ne-eqb}
 
 abbrev pub AtomOrBot : ℕ → ℕ → Type 0
 AtomOrBot n x = (x < n) ⊎ (x ≡ bot)
@@ -60,6 +61,28 @@ has-one x j =
     by-cond (λ s. T (has s j) → x ≡ j) (eqb x bot) 0 (single x)
     (λ e t. absurd (false-T (has-empty j) t)) (λ e t. eqb→eq x j (subst T (has-single x j) t))
 
+pub one-has : (x : ℕ) → (x ≡ bot → ⊥) → T (has (one x) x)
+unfolding one
+one-has x d = rw (ne-eqb x bot d) (subst T (sym (has-single x x)) (eqb-refl x))
+
 pub one-in-range : (n x : ℕ) → AtomOrBot n x → T (setInRange n (one x))
 unfolding setInRange
 one-in-range n x h = lt→ltb (one x) (2 ^ n) (one-below n x h)
+
+-- ---- and back, also over more atoms
+
+pub flat-in-range : (n : ℕ) (f : Flat) → FlatBelow n f → T (flatInRange n f)
+unfolding flatInRange setInRange
+flat-in-range n f h = T-and (ltb (f .left) (2 ^ n)) (ltb (f .right) (2 ^ n)) (lt→ltb (f .left) (2 ^ n) (h .left)) (lt→ltb (f .right) (2 ^ n) (h .right))
+
+pub atom-in-range : (n m x : ℕ) → n ≤ m → AtomOrBot n x → T (atomOrBot m x)
+unfolding atomOrBot
+atom-in-range n m x h (inl l) = T-inl (ltb x m) (eqb x bot) (lt→ltb x m (omega arith))
+atom-in-range n m x h (inr e) = T-inr (ltb x m) (eqb x bot) (true-T (eq-eqb x bot e))
+
+pub implication-in-range : (n m : ℕ) → n ≤ m → (i : Implication) → ImplicationBelow n i → T (implicationInRange m i)
+unfolding implicationInRange
+implication-in-range n m h i r =
+    T-and (ltb (i .a) m && atomOrBot m (i .b)) (atomOrBot m (i .c))
+    (T-and (ltb (i .a) m) (atomOrBot m (i .b)) (lt→ltb (i .a) m (omega (arith, r .a))) (atom-in-range n m (i .b) h (r .b)))
+    (atom-in-range n m (i .c) h (r .c))

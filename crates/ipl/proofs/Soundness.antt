@@ -1,27 +1,40 @@
 -- Theorem 2: a classical consequence and the clause of a learned step are forced at every world of every model that forces
 -- what they come from (source 000, section 3).
-use mathlib.Core.Bool.{Bool, true, false, not, cond, _||_}
+use mathlib.Core.Bool.{Bool, true, false, not, _||_}
 use mathlib.Core.List.{List}
 use mathlib.Core.Logic.{inl, inr}
 use mathlib.Core.Option.{none}
 use mathlib.Core.Path.{_≡_, refl, sym, _∙_, subst}
 use Prim.Native.Nat.{ℕ, _^_, _≤_, _<_}
-use lib.Dec.{T, eqb, eqb-refl}
+use lib.Dec.{T, eqb}
 use borrow.Author.Tests.{eqb-true}
-use Rattle.atoms.specs.Sets.{has, single, remove, within, meets}
+use Rattle.atoms.specs.Sets.{has, remove, within, meets}
 use Rattle.atoms.proofs.Truth.{T-left, T-right, T-and, true-T, false-T, T-dne}
-use Rattle.atoms.proofs.Members.{has-past, has-below, has-single, has-remove, within-has, has-within, has-meets, setOf, setOf-lt, has-setOf}
+use Rattle.atoms.proofs.Members.{has-past, has-below, has-remove, within-has, has-within, has-meets, setOf, setOf-lt, has-setOf}
 use Rattle.ipl.specs.Lists.{All}
 use Rattle.ipl.specs.Clause.{bot, one, Flat, Implication, satisfies, learned}
 use Rattle.ipl.specs.Question.{ask}
 use Rattle.ipl.specs.Kripke.{Model, IsModel, forcesAtom, ForcesEvery, ForcesSome, ForcesFlat, ForcesImplication}
 use Rattle.ipl.proofs.Lists.{All-map, All-zip}
-use Rattle.ipl.proofs.Range.{AtomOrBot, FlatBelow}
+use Rattle.ipl.proofs.Range.{AtomOrBot, FlatBelow, one-has}
 use Rattle.ipl.proofs.Question.{ask-none-iff}
 
 pub bot-unforced : (m : Model) (w : ℕ) → forcesAtom m w bot ≡ false
 unfolding forcesAtom
 bot-unforced m w = refl
+
+-- An atom that is forced is not ⊥.
+pub forced-atom : (m : Model) (w x : ℕ) → T (forcesAtom m w x) → x ≡ bot → ⊥
+forced-atom m w x t e = false-T (bot-unforced m w) (subst (λ (y : ℕ). T (forcesAtom m w y)) e t)
+
+pub some-one : (m : Model) (w x : ℕ) → T (forcesAtom m w x) → ForcesSome m w (one x)
+some-one m w x t = (x, one-has x (forced-atom m w x t), t)
+
+pub atom-persists : (m : Model) → IsModel m → (u v x : ℕ) → u < m .count → v < m .count → T (m .le u v) → T (forcesAtom m u x) → T (forcesAtom m v x)
+unfolding forcesAtom
+atom-persists m ok u v x lu lv l t =
+    T-and (not (eqb x bot)) (m .holds v x) (T-left (not (eqb x bot)) (m .holds u x) t)
+    (ok .persistent u v x lu lv l (T-right (not (eqb x bot)) (m .holds u x) t))
 
 module _ (n : ℕ) (few : n ≤ bot) (m : Model) (ok : IsModel m) where
   -- The set of the atoms forced at a world.
@@ -63,21 +76,10 @@ module _ (n : ℕ) (few : n ≤ bot) (m : Model) (ok : IsModel m) where
       }))
 
   every-persists : (u v s : ℕ) → u < m .count → v < m .count → T (m .le u v) → ForcesEvery m u s → ForcesEvery m v s
-  unfolding forcesAtom
-  every-persists u v s lu lv l h i t =
-      T-and (not (eqb i bot)) (m .holds v i) (T-left (not (eqb i bot)) (m .holds u i) (h i t))
-      (ok .persistent u v i lu lv l (T-right (not (eqb i bot)) (m .holds u i) (h i t)))
+  every-persists u v s lu lv l h i t = atom-persists m ok u v i lu lv l (h i t)
 
   flat-persists : (u v : ℕ) → u < m .count → v < m .count → T (m .le u v) → (f : Flat) → ForcesFlat m u f → ForcesFlat m v f
   flat-persists u v lu lv l f h w lw k = h w lw (ok .transitive u v w lu lv lw l k)
-
-  some-one : (v c : ℕ) → T (forcesAtom m v c) → ForcesSome m v (one c)
-  unfolding one
-  some-one v c t = go (eqb c bot) refl
-    where
-      go : (b : Bool) → eqb c bot ≡ b → ForcesSome m v (cond b 0 (single c))
-      go true e = absurd (false-T (bot-unforced m v) (subst (λ (x : ℕ). T (forcesAtom m v x)) (eqb-true c bot e) t))
-      go false e = (c, subst T (sym (has-single c c)) (eqb-refl c), t)
 
   -- A is forced where a and the rest of A are.
   every-with : (u A a : ℕ) → ForcesEvery m u (remove A a) → T (forcesAtom m u a) → ForcesEvery m u A
@@ -92,7 +94,7 @@ module _ (n : ℕ) (few : n ≤ bot) (m : Model) (ok : IsModel m) where
       → (w : ℕ) → w < m .count → All (ForcesFlat m w) R → ForcesImplication m w i → ForcesFlat m w (learned i A)
   unfolding learned
   learned-forced R i A oR oA ob e w lw hR hi v lv l hv =
-      some-one v (i .c)
+      some-one m v (i .c)
       (hi v lv l
       (λ u lu k ta.
       consequence-forced R A (i .b) oR oA ob e u lu

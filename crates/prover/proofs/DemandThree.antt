@@ -75,7 +75,7 @@ module _ (s : Session) (h : WellFormed (book s)) where
     well-formed-in-range v =
         of-parts s (record { count = count-in-range; flats = flats-in-range; implications = implications-in-range; steps = steps-in-range; worlds = worlds-in-range; held = v })
 
-nothing-in-range : (total : ℕ) (s : Session) → Reached (book s) → NothingHeld total s → inRange s ≡ true
+pub nothing-in-range : (total : ℕ) (s : Session) → Reached (book s) → NothingHeld total s → inRange s ≡ true
 unfolding heldInRange
 nothing-in-range total s r h =
     well-formed-in-range s (r .well-formed) [] (h .no-worlds) (omega arith) tt (subst (λ (v : Held). T (heldInRange (s .n) v)) (sym (h .no-verdict)) tt)
@@ -154,7 +154,7 @@ module _ (s : Session) (in-range : inRange s ≡ true) (r : Reached (book s)) wh
     )
     kept unfinished e h a = absurd a
 
-    asked-as : AskedAs s g (outcome s g) x → AskedAs s g (answer (book s) g) x
+    pub asked-as : AskedAs s g (outcome s g) x → AskedAs s g (answer (book s) g) x
     asked-as a = subst (λ (b : Bool). AskedAs s g (cond b (answer (book s) g) (refused 5)) x) in-range a
 
   -- ---- each call

@@ -3,20 +3,20 @@ use mathlib.Core.Bool.{true, false, cond, _||_}
 use mathlib.Core.List.{List, [], _∷_, map}
 use mathlib.Core.Logic.{_⊎_, inl, inr}
 use mathlib.Core.Option.{Option, none, some}
-use mathlib.Core.Path.{_≡_, refl, sym, _∙_}
+use mathlib.Core.Path.{_≡_, refl, sym, ap, _∙_}
 use Prim.Native.Nat.{ℕ, zero, suc, _+_, _<_}
 use native.Mathlib.Omega.{arith}
 use lib.Dec.{eqb, ltb, T}
 use lib.ListN.{length, take}
-use borrow.Author.Tests.{eqb-true, eqb-false, ltb-true, ltb-false}
+use borrow.Author.Tests.{eqb-true, eqb-false, ltb-true, ltb-false, lt-ltb, le-ltb}
 use Rattle.atoms.proofs.Truth.{by-cond, nor, T-or, true-T, T-true}
 use Rattle.syntax.specs.Class.{classOf}
 use Rattle.syntax.specs.Grammar.{Tree}
 use Rattle.syntax.specs.Reading.{reading}
 use Rattle.syntax.specs.Nodes.{nodes, named}
-use Rattle.syntax.specs.Refusal.{BadLength, count, TooDeep, line-1, line-2, line-3, line-4}
+use Rattle.syntax.specs.Refusal.{BadLength, count, TooDeep, Longest, line-1, line-2, line-3, line-4}
 use Rattle.syntax.specs.Scan.{wanted, fitting}
-use Rattle.syntax.specs.Judge.{refused, accepted, isByte, deepAfter, judgeTree, judge, Right}
+use Rattle.syntax.specs.Judge.{Judgement, refused, accepted, isByte, deepAfter, judgeTree, judge, Right}
 use Rattle.syntax.proofs.Unique.{reading-of, reading-reads}
 use Rattle.syntax.proofs.Beginning.{longest}
 
@@ -83,3 +83,35 @@ module _ (s : List ℕ) where
   judge-right =
       by-cond (Right s) (eqb (length s) 0 || ltb 4096 (length s)) _ _ (λ e. line-1 (bad-length e))
       (λ e. by-cond (Right s) (deepAfter 0 0 s) _ _ (λ f. line-2 (good-length e) (deep f)) (λ f. tree-right (good-length e) (not-deep f) (reading s) refl))
+
+  -- ---- and it is the only right judgement
+
+  longest-one : (a b : ℕ) → Longest s a → Longest s b → a ≡ b
+  longest-one a b x y = omega (arith, x .last b (y .within) (y .begins), y .last a (x .within) (x .begins))
+
+  judge-reading : (BadLength s → ⊥) → (TooDeep s → ⊥) → (o : Option Tree) → reading s ≡ o → judge s ≡ judgeTree (fitting (wanted 0) (map classOf s)) o
+  unfolding judge
+  judge-reading l d o e =
+      by-cond (λ (j : Judgement). j ≡ judgeTree (fitting (wanted 0) (map classOf s)) o) (eqb (length s) 0 || ltb 4096 (length s)) _ _ (λ t. absurd (l (bad-length t)))
+      (λ t. by-cond (λ (j : Judgement). j ≡ judgeTree (fitting (wanted 0) (map classOf s)) o) (deepAfter 0 0 s) _ _ (λ f. absurd (d (deep f))) (λ f. rw e))
+
+  not-read : ((t : Tree) → reading s ≡ some t → ⊥) → reading s ≡ none
+  not-read n = go (reading s) refl
+    where
+      go : (o : Option Tree) → reading s ≡ o → o ≡ none
+      go none e = refl
+      go (some t) e = absurd (n t e)
+
+  pub judge-only : (j : Judgement) → Right s j → judge s ≡ j
+  unfolding judge
+  judge-only (refused number place) (line-1 b) =
+      by-cond (λ (j : Judgement). j ≡ refused 1 0) (eqb (length s) 0 || ltb 4096 (length s)) _ _ (λ t. refl) (λ t. absurd (good-length t b))
+  judge-only (refused number place) (line-2 l d) =
+      by-cond (λ (j : Judgement). j ≡ refused 2 0) (eqb (length s) 0 || ltb 4096 (length s)) _ _ (λ t. absurd (l (bad-length t)))
+      (λ t. by-cond (λ (j : Judgement). j ≡ refused 2 0) (deepAfter 0 0 s) _ _ (λ f. refl) (λ f. absurd (not-deep f d)))
+  judge-only (refused number place) (line-3 l d n x) =
+      judge-reading l d none (not-read (λ t e. n (t, reading-reads s t e))) ∙ ap (refused 3) (longest-one _ _ (longest s) x)
+  judge-only (refused number place) (line-4 {t} l d r z) =
+      judge-reading l d (some t) (reading-of s t r) ∙ rw (lt-ltb 64 (named (nodes t .table)) z)
+  judge-only (accepted t) a =
+      judge-reading (a .length-right) (a .depth-right) (some t) (reading-of s t (a .reads)) ∙ rw (le-ltb 64 (named (nodes t .table)) (omega (arith, a .size-right)))

@@ -11,8 +11,10 @@ pub mod Operand
 pub mod Join
 pub mod Beginning
 pub mod Unique
+pub mod Growth
 pub mod Names
 pub mod Stands
+pub mod Letters
 pub mod Judgement
 pub mod Reader
 pub mod Judge

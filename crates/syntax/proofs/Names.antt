@@ -16,6 +16,7 @@ use Rattle.syntax.specs.Grammar.{Tree, Level, Parses, a-letter, a-falsum
 use Rattle.syntax.specs.Nodes.{Connective, And, Or, Implies, Entry, letter, falsum, compound, sameLeaf, leafAt, withLeaf, withCompound, withEquivalence, withTree, nodes, named}
 use Rattle.syntax.specs.Size.{Size, stands, withNames, withLetter, counted, total, uncounted, sizeOf}
 use Rattle.syntax.proofs.Class.{after-append, after-tokens}
+use Rattle.syntax.proofs.Growth.{tree-keeps}
 
 -- The count of a table.
 lettersIn : List Entry → List ℕ
@@ -194,24 +195,13 @@ falsum-absent (compound c a b ∷ T) h = falsum-absent T (omega arith)
 abbrev Once : List Entry → Type 0
 Once T = falsums T ≤ 1
 
-once-compound : (T : List Entry) (c : Connective) (a b : ℕ) → Once T → Once (withCompound T c a b .table)
-unfolding withCompound falsums
-once-compound T c a b h = rw (other-row T (compound c a b) refl) h
-
-once-equivalence : (T : List Entry) (a b : ℕ) → Once T → Once (withEquivalence T a b .table)
-unfolding withEquivalence
-once-equivalence T a b h = once-compound _ And _ _ (once-compound _ Implies b a (once-compound T Implies a b h))
-
-once-tree : (T : List Entry) (t : Tree) → Once T → Once (withTree T t .table)
-unfolding withTree withLeaf falsums
-once-tree T (grammar.letter l) h = by-cond Once (ltb (leafAt (letter l) T) (length T)) T (T ++ (letter l ∷ [])) (λ t. h) (λ t. rw (other-row T (letter l) refl) h)
-once-tree T grammar.falsum h = by-cond Once (ltb (leafAt falsum T) (length T)) T (T ++ (falsum ∷ [])) (λ t. h) (λ t. omega (arith, falsum-last T, falsum-absent T (ltb-false _ _ t)))
-once-tree T (grammar.and p q) h = once-compound _ And _ _ (once-tree _ q (once-tree T p h))
-once-tree T (grammar.or p q) h = once-compound _ Or _ _ (once-tree _ q (once-tree T p h))
-once-tree T (grammar.implies p q) h = once-compound _ Implies _ _ (once-tree _ q (once-tree T p h))
-once-tree T (grammar.equal p q) h = once-equivalence _ _ _ (once-tree _ q (once-tree T p h))
+once-row : (T : List Entry) (e : Entry) → length T ≤ leafAt e T → Once T → Once (T ++ (e ∷ []))
+unfolding falsums
+once-row T (letter l) n h = rw (other-row T (letter l) refl) h
+once-row T falsum n h = omega (arith, falsum-last T, falsum-absent T n)
+once-row T (compound c a b) n h = rw (other-row T (compound c a b) refl) h
 
 -- 64 letters and names, and ⊥, have room.
 pub has-room : (t : Tree) → named (nodes t .table) ≤ 64 → length (nodes t .table) ≤ 65
 unfolding nodes falsums
-has-room t h = omega (arith, rows (withTree [] t .table), once-tree [] t (omega arith))
+has-room t h = omega (arith, rows (withTree [] t .table), tree-keeps Once once-row t [] (omega arith))

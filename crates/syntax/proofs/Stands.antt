@@ -2,8 +2,9 @@
 use mathlib.Core.Bool.{Bool, true, false, cond}
 use mathlib.Core.List.{List, [], _∷_, _++_}
 use mathlib.Core.Path.{_≡_, refl, sym, _∙_, ap, subst}
-use Prim.Native.Nat.{ℕ, suc, _+_, _≤_, _<_}
+use Prim.Native.Nat.{ℕ, zero, suc, _+_, _≤_, _<_}
 use native.Mathlib.Decide.{decLt}
+use native.Mathlib.Nat.{add-zero}
 use native.Mathlib.Numerals.{add-one}
 use native.Mathlib.Omega.{arith}
 use lib.Dec.{ltb}
@@ -86,6 +87,33 @@ formulas-front [] F i h = refl
 formulas-front (x ∷ T) F i h =
     formulas-front T (F ++ (entryFormula F x ∷ [])) i (omega (arith, length-append F (entryFormula F x ∷ [])))
     ∙ List·getD-append F (entryFormula F x ∷ []) Formula.falsum i h
+
+-- Each row's formula is that of its entry, over the formulas of the table.
+entry-front : (T : List Entry) (F : List Formula) (e : Entry) → Earlier (length F) e → entryFormula F e ≡ entryFormula (formulasAfter F T) e
+unfolding entryFormula
+entry-front T F (letter l) h = refl
+entry-front T F falsum h = refl
+entry-front T F (compound c a b) h = rw (formulas-front T F a (h .0), formulas-front T F b (h .1))
+
+row-at : (T : List Entry) (F : List Formula) (i : ℕ) → i < length T → Earlier (length F + i) (getD T i falsum) → getD (formulasAfter F T) (length F + i) Formula.falsum ≡ entryFormula (formulasAfter F T) (getD T i falsum)
+unfolding formulasAfter
+row-at [] F i l h = absurd (omega arith)
+row-at (x ∷ T) F zero l h =
+    let size : length F < length (F ++ (entryFormula F x ∷ [])) = omega (arith, length-append F (entryFormula F x ∷ [])) in
+    ap (λ (k : ℕ). getD (formulasAfter (F ++ (entryFormula F x ∷ [])) T) k Formula.falsum) (add-zero (length F))
+    ∙ formulas-front T (F ++ (entryFormula F x ∷ [])) (length F) size
+    ∙ getD-append-seam F (entryFormula F x) [] Formula.falsum
+    ∙ entry-front (x ∷ T) F x (subst (λ (k : ℕ). Earlier k x) (add-zero (length F)) h)
+row-at (x ∷ T) F (suc i) l h =
+    let e : length F + suc i ≡ length (F ++ (entryFormula F x ∷ [])) + i = omega (arith, length-append F (entryFormula F x ∷ [])) in
+    ap (λ (k : ℕ). getD (formulasAfter (F ++ (entryFormula F x ∷ [])) T) k Formula.falsum) e
+    ∙ row-at T (F ++ (entryFormula F x ∷ [])) i (omega arith) (subst (λ (k : ℕ). Earlier k (getD T i falsum)) e h)
+
+pub row-formula : (T : List Entry) → WellOrdered T → (i : ℕ) → i < length T → formulaAt T i ≡ entryFormula (formulasAfter [] T) (getD T i falsum)
+unfolding formulaAt
+row-formula T w i l =
+    let e : i ≡ 0 + i = omega arith in
+    ap (λ (k : ℕ). getD (formulasAfter [] T) k Formula.falsum) e ∙ row-at T [] i l (subst (λ (k : ℕ). Earlier k (getD T i falsum)) e (w i l))
 
 leaf-found : (T : List Entry) (F : List Formula) (e : Entry) → leafAt e T < length T → getD (formulasAfter F T) (length F + leafAt e T) Formula.falsum ≡ entryFormula [] e
 unfolding leafAt formulasAfter
