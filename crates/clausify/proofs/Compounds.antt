@@ -9,12 +9,7 @@ use Rattle.ipl.specs.Book.{Call}
 use Rattle.ipl.proofs.Lists.{All-append, All-left, All-right}
 use Rattle.syntax.specs.Nodes.{Entry, letter, falsum, compound}
 use Rattle.clausify.specs.Naming.{letterCount, atomsFrom, atomsOf, atomAt, partCalls, callsFrom, calls}
-
--- The calls of one part with the atom x, where A has the atoms of all parts.
-abbrev pub entryCalls : List ℕ → ℕ → Entry → List Call
-entryCalls A x (letter l) = []
-entryCalls A x falsum = []
-entryCalls A x (compound c a b) = partCalls c x (getD A a bot) (getD A b bot)
+use Rattle.clausify.specs.Writing.{entryCalls}
 
 module _ (P : Call → Type 0) (A : List ℕ) where
   from-at : (T : List Entry) (l x : ℕ) → All P (callsFrom A x T) → (i : ℕ) → i < length T → All P (entryCalls A (getD (atomsFrom l x T) i bot) (getD T i falsum))

@@ -16,7 +16,8 @@ use Rattle.syntax.specs.Nodes.{Entry, letter, falsum, compound, named, connecte
 use Rattle.syntax.proofs.Stands.{row-formula}
 use Rattle.clausify.specs.Naming.{atomsOf, atomAt, calls}
 use Rattle.clausify.specs.Additions.{flatsBy, implicationsBy}
-use Rattle.clausify.proofs.Compounds.{entryCalls, calls-of}
+use Rattle.clausify.proofs.Compounds.{calls-of}
+use Rattle.clausify.specs.Writing.{entryCalls}
 use Rattle.clausify.proofs.Atoms.{bot-falsum, partWith, part-found}
 use Rattle.clausify.proofs.Clauses.{ForcesCall, calls-forced}
 use Rattle.clausify.proofs.Part.{Same, withSets, joined-forces, name-clauses}

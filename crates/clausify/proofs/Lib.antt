@@ -12,3 +12,5 @@ pub mod Extension
 pub mod DemandTwo
 pub mod Passes
 pub mod Written
+pub mod Loops
+pub mod Texts

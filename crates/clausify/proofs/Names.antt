@@ -17,7 +17,8 @@ use Rattle.syntax.proofs.Stands.{row-formula, table-ordered}
 use Rattle.clausify.specs.Naming.{atomsOf, atomAt, calls}
 use Rattle.clausify.specs.Additions.{flatsBy, implicationsBy}
 use Rattle.clausify.specs.Demand.{onLetters}
-use Rattle.clausify.proofs.Compounds.{entryCalls, calls-at}
+use Rattle.clausify.proofs.Compounds.{calls-at}
+use Rattle.clausify.specs.Writing.{entryCalls}
 use Rattle.clausify.proofs.Atoms.{falsum-bot}
 use Rattle.clausify.proofs.Clauses.{ForcesCall, calls-forced}
 use Rattle.clausify.proofs.Part.{Same, joined-forces, clauses-name}

@@ -19,7 +19,8 @@ use Rattle.ipl.proofs.Range.{AtomOrBot, one-below, flat-in-range, implication-i
 use Rattle.syntax.specs.Nodes.{Connective, And, Or, Implies, Entry, letter, falsum, compound, named}
 use Rattle.clausify.specs.Naming.{atomsOf, atomAt, setOf, clause, partCalls, calls}
 use Rattle.clausify.proofs.Additions.{AddsInRange}
-use Rattle.clausify.proofs.Compounds.{entryCalls, calls-of}
+use Rattle.clausify.proofs.Compounds.{calls-of}
+use Rattle.clausify.specs.Writing.{entryCalls}
 use Rattle.clausify.proofs.Atoms.{atom-below}
 
 module _ (n : ℕ) where

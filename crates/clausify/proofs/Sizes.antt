@@ -1,10 +1,10 @@
 -- A table brings at most three flat clauses and one implication for each name.
 use mathlib.Core.List.{List, [], _∷_, _++_}
 use mathlib.Core.Path.{_≡_, ap, _∙_}
-use Prim.Native.Nat.{ℕ, zero, suc, _+_, _*_, _≤_}
+use Prim.Native.Nat.{ℕ, suc, _+_, _*_, _≤_}
 use native.Mathlib.Omega.{arith}
 use lib.Dec.{T, eqb}
-use lib.ListN.{length, getD, length-append, take}
+use lib.ListN.{length, getD, length-append}
 use Rattle.atoms.proofs.Truth.{by-cond}
 use Rattle.ipl.specs.Lists.{any}
 use Rattle.ipl.specs.Clause.{bot, Flat, Implication, closing, closings}
@@ -12,6 +12,7 @@ use Rattle.ipl.specs.Book.{Call, addFlat, addImplication}
 use Rattle.syntax.specs.Nodes.{Connective, And, Or, Implies, Entry, letter, falsum, compound, named}
 use Rattle.clausify.specs.Naming.{setOf, clause, partCalls, callsFrom}
 use Rattle.clausify.specs.Additions.{flatsBy, implicationsBy}
+use Rattle.clausify.specs.Writing.{entryCalls}
 use Rattle.clausify.proofs.Additions.{flatsBy-append, implicationsBy-append}
 
 clause-size : (left right : List ℕ) → (length (flatsBy (clause left right)) ≤ 1) × (length (implicationsBy (clause left right)) ≤ 0)
@@ -49,6 +50,12 @@ part-size Implies x y z =
     let s = size-append (clause (x ∷ y ∷ []) (z ∷ [])) (addImplication i ∷ []) in
     (omega (arith, a .0, s .0, closings-size i, length-append (closings i) []), omega (arith, a .1, s .1)))
 
+pub entry-size : (A : List ℕ) (x : ℕ) (e : Entry) → (length (flatsBy (entryCalls A x e)) ≤ 3) × (length (implicationsBy (entryCalls A x e)) ≤ 1)
+unfolding flatsBy implicationsBy
+entry-size A x (letter l) = (omega arith, omega arith)
+entry-size A x falsum = (omega arith, omega arith)
+entry-size A x (compound c a b) = part-size c x (getD A a bot) (getD A b bot)
+
 -- Of any table, so also of the front of one.
 pub calls-size : (T : List Entry) (A : List ℕ) (x : ℕ) → (length (flatsBy (callsFrom A x T)) ≤ 3 * named T) × (length (implicationsBy (callsFrom A x T)) ≤ named T)
 unfolding callsFrom named flatsBy implicationsBy
@@ -60,11 +67,3 @@ calls-size (compound c a b ∷ T) A x =
     let p = part-size c x (getD A a bot) (getD A b bot) in
     let s = size-append (partCalls c x (getD A a bot) (getD A b bot)) (callsFrom A (suc x) T) in
     (omega (arith, r .0, p .0, s .0), omega (arith, r .1, p .1, s .1))
-
-pub named-front : (i : ℕ) (T : List Entry) → named (take i T) ≤ named T
-unfolding named
-named-front zero T = omega arith
-named-front (suc i) [] = omega arith
-named-front (suc i) (letter l ∷ T) = omega (arith, named-front i T)
-named-front (suc i) (falsum ∷ T) = named-front i T
-named-front (suc i) (compound c a b ∷ T) = omega (arith, named-front i T)

@@ -6,25 +6,36 @@ use mathlib.Core.Logic.{inl}
 use Prim.Native.Nat.{ℕ, _+_, _≤_}
 use native.Mathlib.Omega.{arith}
 use lib.Dec.{T, eqb}
-use lib.ListN.{length, length-append}
+use lib.ListN.{length, getD, length-append}
 use Rattle.atoms.specs.Sets.{has, limit, union}
 use Rattle.atoms.specs.Words.{num, singleOrEmpty, RowSet}
 use Rattle.atoms.specs.declared.AtomSet.{AtomSet}
-use borrow.Author.Tests.{eqb-true, eqb-false, ne-eqb}
+use borrow.Author.Tests.{eqb-true, eqb-false, eq-eqb, ne-eqb}
+use Rattle.atoms.proofs.Truth.{by-cond}
 use Rattle.atoms.proofs.Machine.{limit-small, same-rows}
 use Rattle.atoms.proofs.Members.{ext, has-union, has-empty}
 use Rattle.ipl.specs.Lists.{any}
 use Rattle.ipl.specs.Clause.{bot, one, Flat, Implication, closing, closings}
+use Rattle.ipl.specs.Range.{atomOrBot}
 use Rattle.ipl.proofs.Range.{atom-or-bot}
-use Rattle.ipl.specs.Book.{Call, addFlat, addImplication, question}
+use Rattle.ipl.specs.Book.{Call, addFlat, addImplication}
 use Rattle.sat.specs.Table.{clauses}
+use Rattle.prover.specs.State.{implicationsOf}
 use Rattle.prover.specs.Calls.{flatOf}
+use Rattle.prover.specs.declared.Implications.{Implications}
 use Rattle.prover.proofs.Rows.{clauses-more}
 use Rattle.prover.proofs.Refusals.{single-one}
 use Rattle.clausify.specs.Naming.{setOf, clause, partCalls}
-use Rattle.clausify.specs.Additions.{flatsBy}
-use Rattle.clausify.specs.Writing.{Fits, Put, Room}
+use Rattle.clausify.specs.Additions.{flatsBy, implicationsBy}
+use Rattle.clausify.proofs.Additions.{flatsBy-append, implicationsBy-append}
+use Rattle.clausify.proofs.Passes.{read-within}
+use Rattle.clausify.specs.Writing.{namesIn, entryCalls, Fits, Put, Room, PartIn, PartsIn, EntryRoom, Appended}
 use Rattle.syntax.specs.Nodes.{And, Or, Implies}
+use Rattle.syntax.specs.Parts.{connectiveOf, entryOf}
+use Rattle.syntax.specs.declared.Part.{Part}
+use Rattle.syntax.specs.declared.Part.the-variants.{Letter, Falsum, Compound}
+use Rattle.syntax.specs.declared.Connective.{Connective}
+use Rattle.syntax.specs.declared.Connective.the-variants as connectives
 
 -- ---- rows
 
@@ -53,15 +64,7 @@ short : (b : Bool) (f : Flat) → length {A = Flat} (cond b [] (f ∷ [])) ≤ 1
 short true f = omega arith
 short false f = omega arith
 
--- ---- additions
-
-pub flats-append : (a b : List Call) → flatsBy (a ++ b) ≡ flatsBy a ++ flatsBy b
-unfolding flatsBy
-flats-append [] b = refl
-flats-append (addFlat f ∷ a) b = ap (λ (F : List Flat). f ∷ F) (flats-append a b)
-flats-append (addImplication i ∷ a) b = ap (λ (F : List Flat). closings i ++ F) (flats-append a b) ∙ sym (append-assoc (closings i) (flatsBy a) (flatsBy b))
-flats-append (question g ∷ a) b = flats-append a b
-
+-- ---- sets
 or-false : (b : Bool) → b || false ≡ b
 or-false true = refl
 or-false false = refl
@@ -69,11 +72,11 @@ or-false false = refl
 union-empty : (a : ℕ) → union a 0 ≡ a
 union-empty a = ext (union a 0) a (λ i. has-union a 0 i ∙ rw (has-empty i) (or-false (has a i)))
 
-pub set-one : (x : ℕ) → setOf (x ∷ []) ≡ one x
+set-one : (x : ℕ) → setOf (x ∷ []) ≡ one x
 unfolding setOf
 set-one x = union-empty (one x)
 
-pub set-two : (x y : ℕ) → setOf (x ∷ y ∷ []) ≡ union (one x) (one y)
+set-two : (x y : ℕ) → setOf (x ∷ y ∷ []) ≡ union (one x) (one y)
 unfolding setOf
 set-two x y = ap (union (one x)) (union-empty (one y))
 
@@ -107,7 +110,7 @@ unfolding clause
 put-clause L R l r b e el er = (λ i. cond (e i) [] (record { left = el i; right = er i } ∷ [])) ∙ flats-cond (any (eqb bot) L) (record { left = setOf L; right = setOf R })
 
 three : (a b c : List Call) (F G H : List Flat) → F ≡ flatsBy a → G ≡ flatsBy b → H ≡ flatsBy c → F ++ G ++ H ≡ flatsBy (a ++ b ++ c)
-three a b c F G H ea eb ec = (λ i. ea i ++ eb i ++ ec i) ∙ sym (flats-append (a ++ b) c ∙ ap (λ (R : List Flat). R ++ flatsBy c) (flats-append a b))
+three a b c F G H ea eb ec = (λ i. ea i ++ eb i ++ ec i) ∙ sym (flatsBy-append (a ++ b) c ∙ ap (λ (R : List Flat). R ++ flatsBy c) (flatsBy-append a b))
 
 -- Of the name x with parts y and z, whose sets the code made.
 module _ (x y z : ℕ) (whole first second both : AtomSet) (ex : num whole ≡ one x) (ey : num first ≡ one y) (ez : num second ≡ one z) (nx : eqb x bot ≡ false) where
@@ -165,7 +168,7 @@ module _ (x y z : ℕ) (whole first second both : AtomSet) (ex : num whole ≡ o
       go true t b eb = rw eb (put-clause [] (x ∷ []) empty whole false none-left (e0 ∙ none-set) single-whole)
       go false t b eb =
           (λ i. put-clause (x ∷ y ∷ []) (z ∷ []) both second false (two-left t) (e ∙ ap₂ union ex ey ∙ sym (set-two x y)) single-second i ++ closed b eb i)
-          ∙ sym (flats-append (clause (x ∷ y ∷ []) (z ∷ [])) (addImplication (record { a = y; b = z; c = x }) ∷ []))
+          ∙ sym (flatsBy-append (clause (x ∷ y ∷ []) (z ∷ [])) (addImplication (record { a = y; b = z; c = x }) ∷ []))
 
 -- ---- the clauses written
 module _ (left right : List ℕ) (k x y z : ℕ) (room : Room left right k x y z) where
@@ -220,3 +223,87 @@ module _ (left right : List ℕ) (k x y z : ℕ) (room : Room left right k x y z
           → Put left3 right3 k3 (cond b [] (flatOf second whole ∷ [])) left4 right4 k4 → Put left right k (flatsBy (partCalls Implies x y z)) left4 right4 k4
       implies-put empty e0 e b eb = three-put _ _ _ _ left2 right2 left3 right3 left4 right4 k2 k3 k4
           (implies-flats x y z whole first second both whole-is first-is second-is name-is empty e0 e b eb)
+
+-- ---- the clauses of an entry
+module _ (A : List ℕ) (x : ℕ) (p : Part) where
+  pub letter-calls : (l : ℕ) → p ≡ Letter l → [] ≡ entryCalls A x (entryOf p)
+  letter-calls l e = sym (ap (λ (p : Part). entryCalls A x (entryOf p)) e)
+
+  pub falsum-calls : p ≡ Falsum → [] ≡ entryCalls A x (entryOf p)
+  falsum-calls e = sym (ap (λ (p : Part). entryCalls A x (entryOf p)) e)
+
+  module _ (c : Connective) (y z : ℕ) (e : p ≡ Compound c y z) where
+    pub compound-parts : PartsIn A (entryOf p) → PartIn A y × PartIn A z
+    compound-parts = subst (λ (p : Part). PartsIn A (entryOf p)) e
+
+    pub compound-calls : PartsIn A (entryOf p) → partCalls (connectiveOf c) x (getD A y 0) (getD A z 0) ≡ entryCalls A x (entryOf p)
+    compound-calls h =
+        let q = compound-parts h in
+        ap₂ (partCalls (connectiveOf c) x) (read-within A y 0 bot (q .0 .0)) (read-within A z 0 bot (q .1 .0)) ∙ sym (ap (λ (p : Part). entryCalls A x (entryOf p)) e)
+
+    pub compound-room : (left right : List ℕ) (k : ℕ) → EntryRoom left right k x A (entryOf p) → Room left right k x (getD A y 0) (getD A z 0)
+    unfolding namesIn
+    compound-room left right k h =
+        let q = compound-parts (h .parts) in
+        record {
+          left-rows = h .left-rows;
+          right-rows = h .right-rows;
+          few = h .few;
+          name-atom = omega (arith, h .name-atom, ap (λ (p : Part). namesIn (entryOf p)) e);
+          left-atom = subst (λ (a : ℕ). T (atomOrBot limit a)) (read-within A y bot 0 (q .0 .0)) (q .0 .1);
+          right-atom = subst (λ (a : ℕ). T (atomOrBot limit a)) (read-within A z bot 0 (q .1 .0)) (q .1 .1);
+        }
+
+pub put-calls : (a b : List Call) (left right left2 right2 : List ℕ) (k k2 : ℕ) → a ≡ b → Put left right k (flatsBy a) left2 right2 k2 → Put left right k (flatsBy b) left2 right2 k2
+put-calls a b left right left2 right2 k k2 e = subst (λ (a : List Call). Put left right k (flatsBy a) left2 right2 k2) e
+
+pub put-as : (c d : Connective) (x y z : ℕ) (left right left2 right2 : List ℕ) (k k2 : ℕ) → c ≡ d → Put left right k (flatsBy (partCalls (connectiveOf d) x y z)) left2 right2 k2
+    → Put left right k (flatsBy (partCalls (connectiveOf c) x y z)) left2 right2 k2
+put-as c d x y z left right left2 right2 k k2 e = put-calls _ _ left right left2 right2 k k2 (ap (λ (c : Connective). partCalls (connectiveOf c) x y z) (sym e))
+
+-- ---- implications
+no-implication : (L R : List ℕ) → implicationsBy (clause L R) ≡ []
+unfolding clause implicationsBy
+no-implication L R = by-cond (λ (cs : List Call). implicationsBy cs ≡ []) (any (eqb bot) L) [] (addFlat (record { left = setOf L; right = setOf R }) ∷ []) (λ e. refl) (λ e. refl)
+
+no-implications : (l r l2 r2 l3 r3 : List ℕ) → implicationsBy (clause l r ++ clause l2 r2 ++ clause l3 r3) ≡ []
+no-implications l r l2 r2 l3 r3 =
+    implicationsBy-append (clause l r ++ clause l2 r2) (clause l3 r3)
+    ∙ ap₂ (λ (a b : List Implication). a ++ b) (implicationsBy-append (clause l r) (clause l2 r2) ∙ ap₂ (λ (a b : List Implication). a ++ b) (no-implication l r) (no-implication l2 r2)) (no-implication l3 r3)
+
+pub appended-none : (t : Implications) → Appended t (implicationsBy []) t
+unfolding implicationsBy
+appended-none t = record { rows = sym (append-nil (implicationsOf t)); more = omega arith }
+
+appended-nothing : (t : Implications) (X : List Implication) → X ≡ [] → Appended t X t
+unfolding implicationsBy
+appended-nothing t X e = subst (λ (X : List Implication). Appended t X t) (sym e) (appended-none t)
+
+pub appended-calls : (t r : Implications) (a b : List Call) → a ≡ b → Appended t (implicationsBy a) r → Appended t (implicationsBy b) r
+appended-calls t r a b e = subst (λ (a : List Call). Appended t (implicationsBy a) r) e
+
+module _ (t : Implications) (c : Connective) (x y z : ℕ) where
+  appended-as : (d : Connective) (r : Implications) → c ≡ d → Appended t (implicationsBy (partCalls (connectiveOf d) x y z)) r → Appended t (implicationsBy (partCalls (connectiveOf c) x y z)) r
+  appended-as d r e = appended-calls t r _ _ (ap (λ (c : Connective). partCalls (connectiveOf c) x y z) (sym e))
+
+  pub and-appended : c ≡ connectives.And → Appended t (implicationsBy (partCalls (connectiveOf c) x y z)) t
+  unfolding partCalls
+  and-appended e = appended-as connectives.And t e (appended-nothing t _ (no-implications (x ∷ []) (y ∷ []) (x ∷ []) (z ∷ []) (y ∷ z ∷ []) (x ∷ [])))
+
+  pub or-appended : c ≡ connectives.Or → Appended t (implicationsBy (partCalls (connectiveOf c) x y z)) t
+  unfolding partCalls
+  or-appended e = appended-as connectives.Or t e (appended-nothing t _ (no-implications (x ∷ []) (y ∷ z ∷ []) (y ∷ []) (x ∷ []) (z ∷ []) (x ∷ [])))
+
+  pub from-bot-appended : c ≡ connectives.Implies → y ≡ bot → Appended t (implicationsBy (partCalls (connectiveOf c) x y z)) t
+  unfolding partCalls
+  from-bot-appended e b = appended-as connectives.Implies t e (appended-nothing t _ (rw (eq-eqb y bot b) (no-implication [] (x ∷ []))))
+
+  pub implies-appended : (r : Implications) → c ≡ connectives.Implies → (y ≡ bot → ⊥) → r .count ≡ t .count + 1 → implicationsOf r ≡ implicationsOf t ++ (record { a = y; b = z; c = x } ∷ [])
+      → Appended t (implicationsBy (partCalls (connectiveOf c) x y z)) r
+  unfolding partCalls implicationsBy
+  implies-appended r e b count rows = appended-as connectives.Implies r e
+      (subst (λ (X : List Implication). Appended t X r) (sym one) (record { rows = rows; more = count }))
+    where
+      one : implicationsBy (partCalls Implies x y z) ≡ record { a = y; b = z; c = x } ∷ []
+      one = rw (ne-eqb y bot b) (implicationsBy-append (clause (x ∷ y ∷ []) (z ∷ [])) (addImplication (record { a = y; b = z; c = x }) ∷ [])
+          ∙ ap (λ (X : List Implication). X ++ (record { a = y; b = z; c = x } ∷ [])) (no-implication (x ∷ y ∷ []) (z ∷ [])))

@@ -1,7 +1,7 @@
 -- The terms in which the functions that name parts and write clauses speak to each other.
 use mathlib.Core.List.{List, [], _∷_, _++_}
 use mathlib.Core.Path.{_≡_}
-use Prim.Native.Nat.{ℕ, suc, _+_, _≤_, _<_}
+use Prim.Native.Nat.{ℕ, _+_, _≤_, _<_}
 use lib.Dec.{T}
 use lib.ListN.{length, getD}
 use Rattle.atoms.specs.Sets.{limit}
@@ -19,7 +19,7 @@ use Rattle.clausify.specs.Naming.{letterCount, atomsFrom, atomAt, partCa
 use Rattle.clausify.specs.declared.naming.Names.{Names}
 use Rattle.clausify.specs.declared.naming.Next.{Next}
 
--- How many letters, names and calls one entry brings.
+-- How many letters and names one entry brings, and its calls with the name x, where A has the atoms of all parts.
 unfoldable pub lettersIn : Entry → ℕ
 lettersIn (letter l) = 1
 lettersIn falsum = 0
@@ -30,7 +30,7 @@ namesIn (letter l) = 0
 namesIn falsum = 0
 namesIn (compound c a b) = 1
 
-unfoldable pub entryCalls : List ℕ → ℕ → Entry → List Call
+abbrev pub entryCalls : List ℕ → ℕ → Entry → List Call
 entryCalls A x (letter l) = []
 entryCalls A x falsum = []
 entryCalls A x (compound c a b) = partCalls c x (getD A a bot) (getD A b bot)
@@ -94,6 +94,6 @@ pub record EntryRoom (left right : List ℕ) (count x : ℕ) (A : List ℕ) (e :
   pub parts : PartsIn A e
 
 -- The implications X after those of t.
-pub record Joined (t : Implications) (X : List Implication) (r : Implications) : Type 0 where
+pub record Appended (t : Implications) (X : List Implication) (r : Implications) : Type 0 where
   pub rows : implicationsOf r ≡ implicationsOf t ++ X
   pub more : r .count ≡ t .count + length X

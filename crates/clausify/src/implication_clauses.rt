@@ -12,12 +12,12 @@ ghost use Rattle.prover.specs.State.{implicationsOf};
 ghost use Rattle.syntax.specs.Parts.{connectiveOf, entryOf, held};
 ghost use Rattle.clausify.specs.Naming.{partCalls, calls};
 ghost use Rattle.clausify.specs.Additions.{implicationsBy};
-ghost use Rattle.clausify.specs.Writing.{Joined, entryCalls, PartsIn, Nameable};
+ghost use Rattle.clausify.specs.Writing.{Appended, entryCalls, PartsIn, Nameable};
 
 // With the implication of y > z, (y → z) → x, where y is not ⊥. Its caller has seen that there is room.
 fn with_part(t: Implications, c: Connective, x: u8, y: u8, z: u8) -> Implications
     requires { ⌜ t .count < implicationTable ⌝ }
-    ensures { λ r. ⌜ Joined t (implicationsBy (partCalls (connectiveOf c) x y z)) r ⌝ }
+    ensures { λ r. ⌜ Appended t (implicationsBy (partCalls (connectiveOf c) x y z)) r ⌝ }
 {
     match c {
         Connective::And => t,
@@ -39,7 +39,7 @@ fn with_part(t: Implications, c: Connective, x: u8, y: u8, z: u8) -> Implication
 
 fn with_entry(t: Implications, part: Part, x: u8, names: Names) -> Implications
     requires { ⌜ (t .count < implicationTable) × PartsIn (names .atoms) (entryOf part) ⌝ }
-    ensures { λ r. ⌜ Joined t (implicationsBy (entryCalls (names .atoms) x (entryOf part))) r ⌝ }
+    ensures { λ r. ⌜ Appended t (implicationsBy (entryCalls (names .atoms) x (entryOf part))) r ⌝ }
 {
     match part {
         Part::Letter(_) => t,

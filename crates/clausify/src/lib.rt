@@ -7,6 +7,7 @@ use syntax::Outcome;
 use syntax::Parts;
 ghost use mathlib.Core.Path.{_≡_};
 ghost use mathlib.Core.List.{[]};
+ghost use Prim.Native.Nat.{max};
 ghost use Rattle.prover.specs.State.{book};
 ghost use Rattle.prover.specs.Calls.{NothingHeld};
 ghost use Rattle.syntax.specs.Judge.{judge};
@@ -35,16 +36,19 @@ pub struct Settled {
     pub goal: u8,
 }
 
+// At least one atom.
+fn atom_count(names: u8) -> u8
+    ensures { λ r. ⌜ r ≡ max 1 names ⌝ }
+{
+    if names == 0 { 1 } else { names }
+}
+
 // The session of a formula's clauses.
 fn session_of(parts: Parts, names: Names) -> Session
     requires { ⌜ Nameable parts names ⌝ }
     ensures { λ r. ⌜ (book r ≡ record { n = atomCount (held parts); flats = flatsBy (calls (held parts)); implications = implicationsBy (calls (held parts)); steps = [] }) × NothingHeld 0 r ⌝ }
 {
-    let mut n = names.count;
-    if n == 0 {
-        n = 1;
-    }
-    let fresh = prover::open(n);
+    let fresh = prover::open(atom_count(names.count));
     let s = fresh.session;
     let mut left = [0; 512 * atoms::WORDS];
     let mut right = [0; 512 * atoms::WORDS];

@@ -87,7 +87,7 @@ pub fn names_of(parts: Parts) -> Names
     let letters = letter_count(parts);
     let mut atoms = [255; 65];
     let mut next = Next {
-        atom: 255,
+        atom: 0,
         letter: 0,
         name: letters,
     };

@@ -1,7 +1,4 @@
 -- A row more in both columns, or none.
-use mathlib.Core.Bool.{cond}
-use mathlib.Core.List.{List, [], _∷_}
-use mathlib.Core.Path.{sym, subst}
 use Rattle.clausify.proofs.Written.{put-none, put-one}
 use borrow.Author.Needs.{needs}
 use native.Mathlib.Omega.{arith}

@@ -1,62 +1,56 @@
+-- The clauses of each kind of part.
+use mathlib.Core.Path.{_≡_}
+use lib.ListN.{length}
+use Rattle.clausify.specs.Additions.{flatsBy}
+use Rattle.clausify.proofs.Written.{put-none, letter-calls, falsum-calls, compound-parts, compound-calls, compound-room, put-calls}
 use borrow.Author.Needs.{needs}
 use native.Mathlib.Omega.{arith}
 use Rattle.clausify.proofs.flat_clauses.put_entry.Statement.{statement}
 use Rattle.clausify.proofs.flat_clauses.put_entry.Tie as tie
-use Rattle.clausify.proofs.flat_clauses.put_entry.Reads as reads
-use Rattle.clausify.proofs.flat_clauses.put_entry.Lts as lts
-use Rattle.clausify.proofs.flat_clauses.put_part.Reads as put-part-reads
 
--- src/flat_clauses.rt:117:28
+atoms-size : (c : tie.Start) → length (c .args .t6 .atoms) ≡ 65
+atoms-size c = search needs
+
 enum-told : tie.Need-enum-told
 enum-told c = search needs
 
--- src/flat_clauses.rt:118:25
 enum-told-2 : tie.Need-enum-told-2
 enum-told-2 c = search needs
 
--- src/flat_clauses.rt:119:24
 enum-known-part : tie.Need-enum-known-part
 enum-known-part c = search needs
 
--- src/flat_clauses.rt:125:25
 cast-put-part : tie.Need-cast-put-part
 cast-put-part c = search needs
 
--- src/flat_clauses.rt:125:13
 element-copy-out-put-part : tie.Need-element-copy-out-put-part
-element-copy-out-put-part c = ?
+element-copy-out-put-part c = omega (arith, compound-parts _ 0 _ _ _ _ (c .before .before .before .part .given .1) (c .before .before .before .before .before .before .before .pre .parts) .0 .0, atoms-size (c .before .before .before .before .before .before .before))
 
--- src/flat_clauses.rt:126:25
 cast-put-part-2 : tie.Need-cast-put-part-2
 cast-put-part-2 c = search needs
 
--- src/flat_clauses.rt:126:13
 element-copy-out-put-part-2 : tie.Need-element-copy-out-put-part-2
-element-copy-out-put-part-2 c = ?
+element-copy-out-put-part-2 c = omega (arith, compound-parts _ 0 _ _ _ _ (c .before .before .before .before .part .given .1) (c .before .before .before .before .before .before .before .before .pre .parts) .1 .0, atoms-size (c .before .before .before .before .before .before .before .before))
 
--- src/flat_clauses.rt:119:36
 put-part-requires : tie.Need-put-part-requires
-put-part-requires c κs = ?
+put-part-requires c κs = compound-room _ _ _ _ _ _ (c .before .before .before .before .before .part .given .1) _ _ _ (c .before .before .before .before .before .before .before .before .before .pre)
 
--- src/flat_clauses.rt:105:1
 returns : tie.Need-returns
-returns c = ?
+unfolding flatsBy
+returns c = put-calls _ _ _ _ _ _ _ _ (letter-calls _ _ _ _ (c .enum-told .given .1)) (put-none _ _ _)
 
--- src/flat_clauses.rt:105:1
 returns-2 : tie.Need-returns-2
-returns-2 c = ?
+unfolding flatsBy
+returns-2 c = put-calls _ _ _ _ _ _ _ _ (falsum-calls _ _ _ (c .enum-told2 .given .1)) (put-none _ _ _)
 
--- src/flat_clauses.rt:105:1
 same-length : tie.Need-same-length
 same-length c = search needs
 
--- src/flat_clauses.rt:105:1
 same-length-2 : tie.Need-same-length-2
 same-length-2 c = search needs
 
--- src/flat_clauses.rt:105:1
 returns-3 : tie.Need-returns-3
-returns-3 c = ?
+returns-3 c = put-calls _ _ _ _ _ _ _ _ (compound-calls _ _ _ _ _ _ (c .before .before .before .before .before .before .before .before .before .before .part .given .1) (c .before .before .before .before .before .before .before .before .before .before .before .before .before .before .pre .parts)) (c .before .before .before .before .put-part .ensures)
 
 pub put-entry-spec : {M : Type 1} → statement M
 put-entry-spec =

@@ -1,4 +1,6 @@
 -- Three clauses, one after the other.
+use mathlib.Core.Bool.{not}
+use lib.Dec.{eqb}
 use mathlib.Core.Path.{refl}
 use Rattle.atoms.proofs.Machine.{num-empty}
 use Rattle.clausify.proofs.Written.{fits-second, fits-third, implies-put}
@@ -22,10 +24,10 @@ join-requires : tie.Need-join-requires
 join-requires c κs = search needs
 
 put-requires-2 : tie.Need-put-requires-2
-put-requires-2 c κs = fits-second _ _ _ _ _ _ (c .before .before .before .before .before .before .before .before .before .before .before .before .before .before .before .pre) _ _ _ _ _ (c .before .before .before .before .before .before .before .put .ensures)
+put-requires-2 c κs = fits-second _ _ _ _ _ _ (c .before .before .before .before .before .before .before .before .before .before .before .before .before .before .before .pre) (not (eqb (c .before .before .before .before .before .before .before .before .before .before .before .before .before .before .before .args .y) 255)) _ _ _ _ (c .before .before .before .before .before .before .before .put .ensures)
 
 put-requires-3 : tie.Need-put-requires-3
-put-requires-3 c κs = fits-third _ _ _ _ _ _ (c .before .before .before .before .before .before .before .before .before .before .before .before .before .before .before .before .before .before .before .before .before .before .pre) _ _ _ _ _ _ _ _ _ _ (c .before .before .before .before .before .before .before .before .before .before .before .before .before .before .put .ensures) (c .before .before .before .before .before .before .put2 .ensures)
+put-requires-3 c κs = fits-third _ _ _ _ _ _ (c .before .before .before .before .before .before .before .before .before .before .before .before .before .before .before .before .before .before .before .before .before .before .pre) (not (eqb (c .before .before .before .before .before .before .before .before .before .before .before .before .before .before .before .before .before .before .before .before .before .before .args .y) 255)) (eqb (c .before .before .before .before .before .before .before .before .before .before .before .before .before .before .before .before .before .before .before .before .before .before .args .y) 255) _ _ _ _ _ _ _ _ (c .before .before .before .before .before .before .before .before .before .before .before .before .before .before .put .ensures) (c .before .before .before .before .before .before .put2 .ensures)
 
 same-length : tie.Need-same-length
 same-length c = search needs

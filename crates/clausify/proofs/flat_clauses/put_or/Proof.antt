@@ -1,4 +1,5 @@
 -- Three clauses, one after the other.
+use lib.Dec.{eqb}
 use mathlib.Core.Bool.{false}
 use Rattle.clausify.proofs.Written.{fits-second, fits-third, or-put}
 use borrow.Author.Needs.{needs}
@@ -24,7 +25,7 @@ put-requires-2 : tie.Need-put-requires-2
 put-requires-2 c κs = fits-second _ _ _ _ _ _ (c .before .before .before .before .before .before .before .before .before .before .before .before .before .before .before .pre) false _ _ _ _ (c .before .before .before .before .before .before .put .ensures)
 
 put-requires-3 : tie.Need-put-requires-3
-put-requires-3 c κs = fits-third _ _ _ _ _ _ (c .before .before .before .before .before .before .before .before .before .before .before .before .before .before .before .before .before .before .before .before .before .before .pre) false _ _ _ _ _ _ _ _ _ (c .before .before .before .before .before .before .before .before .before .before .before .before .before .put .ensures) (c .before .before .before .before .before .before .put2 .ensures)
+put-requires-3 c κs = fits-third _ _ _ _ _ _ (c .before .before .before .before .before .before .before .before .before .before .before .before .before .before .before .before .before .before .before .before .before .before .pre) false (eqb (c .before .before .before .before .before .before .before .before .before .before .before .before .before .before .before .before .before .before .before .before .before .before .args .y) 255) _ _ _ _ _ _ _ _ (c .before .before .before .before .before .before .before .before .before .before .before .before .before .put .ensures) (c .before .before .before .before .before .before .put2 .ensures)
 
 same-length : tie.Need-same-length
 same-length c = search needs

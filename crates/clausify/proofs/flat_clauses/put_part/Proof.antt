@@ -1,72 +1,54 @@
+-- The clauses of each connective.
+use Rattle.syntax.specs.declared.Connective.the-variants.{And, Or, Implies}
+use Rattle.clausify.proofs.Written.{put-as}
 use borrow.Author.Needs.{needs}
-use native.Mathlib.Omega.{arith}
 use Rattle.clausify.proofs.flat_clauses.put_part.Statement.{statement}
 use Rattle.clausify.proofs.flat_clauses.put_part.Tie as tie
-use Rattle.clausify.proofs.flat_clauses.put_part.Reads as reads
-use Rattle.clausify.proofs.flat_clauses.put_part.Lts as lts
-use Rattle.clausify.proofs.flat_clauses.put_and.Reads as put-and-reads
-use Rattle.clausify.proofs.flat_clauses.put_implies.Reads as put-implies-reads
-use Rattle.clausify.proofs.flat_clauses.put_or.Reads as put-or-reads
 
--- src/flat_clauses.rt:98:36
 enum-told : tie.Need-enum-told
 enum-told c = search needs
 
--- src/flat_clauses.rt:98:28
 put-and-requires : tie.Need-put-and-requires
 put-and-requires c κs = search needs
 
--- src/flat_clauses.rt:99:34
 enum-told-2 : tie.Need-enum-told-2
 enum-told-2 c = search needs
 
--- src/flat_clauses.rt:99:27
 put-or-requires : tie.Need-put-or-requires
 put-or-requires c κs = search needs
 
--- src/flat_clauses.rt:100:44
 enum-told-3 : tie.Need-enum-told-3
 enum-told-3 c = search needs
 
--- src/flat_clauses.rt:100:32
 put-implies-requires : tie.Need-put-implies-requires
 put-implies-requires c κs = search needs
 
--- src/flat_clauses.rt:85:1
 same-length : tie.Need-same-length
 same-length c = search needs
 
--- src/flat_clauses.rt:85:1
 same-length-2 : tie.Need-same-length-2
 same-length-2 c = search needs
 
--- src/flat_clauses.rt:85:1
 returns : tie.Need-returns
-returns c = ?
+returns c = put-as _ And _ _ _ _ _ _ _ _ _ (c .before .before .before .before .before .before .before .enum-told .given .1) (c .before .before .before .before .put-and .ensures)
 
--- src/flat_clauses.rt:85:1
 same-length-3 : tie.Need-same-length-3
 same-length-3 c = search needs
 
--- src/flat_clauses.rt:85:1
 same-length-4 : tie.Need-same-length-4
 same-length-4 c = search needs
 
--- src/flat_clauses.rt:85:1
 returns-2 : tie.Need-returns-2
-returns-2 c = ?
+returns-2 c = put-as _ Or _ _ _ _ _ _ _ _ _ (c .before .before .before .before .before .before .before .enum-told2 .given .1) (c .before .before .before .before .put-or .ensures)
 
--- src/flat_clauses.rt:85:1
 same-length-5 : tie.Need-same-length-5
 same-length-5 c = search needs
 
--- src/flat_clauses.rt:85:1
 same-length-6 : tie.Need-same-length-6
 same-length-6 c = search needs
 
--- src/flat_clauses.rt:85:1
 returns-3 : tie.Need-returns-3
-returns-3 c = ?
+returns-3 c = put-as _ Implies _ _ _ _ _ _ _ _ _ (c .before .before .before .before .before .before .before .enum-told3 .given .1) (c .before .before .before .before .put-implies .ensures)
 
 pub put-part-spec : {M : Type 1} → statement M
 put-part-spec =

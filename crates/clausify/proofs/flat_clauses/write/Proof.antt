@@ -1,69 +1,60 @@
+-- The clauses before entry i, and those of the entries that are left.
+use Prim.Native.Nat.{_-_}
+use mathlib.Core.Path.{_≡_}
+use lib.ListN.{length}
+use Rattle.clausify.proofs.Loops.{FlatsWritten, flats-none, name-byte, flats-room, flats-more, flats-all}
 use borrow.Author.Needs.{needs}
 use native.Mathlib.Omega.{arith}
 use Rattle.clausify.proofs.flat_clauses.write.Statement.{statement}
 use Rattle.clausify.proofs.flat_clauses.write.Tie as tie
-use Rattle.clausify.proofs.flat_clauses.write.Reads as reads
-use Rattle.clausify.proofs.flat_clauses.write.Lts as lts
-use Rattle.clausify.proofs.flat_clauses.put_entry.Reads as put-entry-reads
-use Rattle.clausify.proofs.naming.names_in.Reads as names-in-reads
 
 abbrev Inv-loop : tie.InvT-loop
-Inv-loop left₀ right₀ names parts k₀ x₀ i₀ left right k x i = ?
+Inv-loop left₀ right₀ names parts k₀ x₀ i₀ left right k x i = FlatsWritten parts left₀ right₀ left right k x i
 
 abbrev μ-loop : tie.MeasureT-loop
-μ-loop left₀ right₀ names parts k₀ x₀ i₀ left right k x i = ?
+μ-loop left₀ right₀ names parts k₀ x₀ i₀ left right k x i = parts .count - i
 
--- src/flat_clauses.rt:139:5
+atoms-size : (c : tie.Start Inv-loop μ-loop) → length (c .args .names .atoms) ≡ 65
+atoms-size c = search needs
+
 loop-holds : tie.Need-loop-holds Inv-loop μ-loop
-loop-holds c = ?
+loop-holds c = flats-none _ _ (c .before .before .pre .0) _ _
 
--- src/flat_clauses.rt:140:32
 cast-node : tie.Need-cast-node Inv-loop μ-loop
-cast-node c = ?
+cast-node c = search needs
 
--- src/flat_clauses.rt:140:20
 mul-node : tie.Need-mul-node Inv-loop μ-loop
-mul-node c = ?
+mul-node c = search needs
 
--- src/flat_clauses.rt:140:20
 element-copy-out-node : tie.Need-element-copy-out-node Inv-loop μ-loop
-element-copy-out-node c = ?
+element-copy-out-node c = search needs
 
--- src/flat_clauses.rt:142:9
 put-entry-requires : tie.Need-put-entry-requires Inv-loop μ-loop
-put-entry-requires c κs = ?
+put-entry-requires c κs = flats-room _ _ (c .before .before .before .before .before .before .before .pre .0) (atoms-size (c .before .before .before .before .before .before .before)) _ _ (c .before .before .before .loop-test .taken) _ _ _ _ _ _ (c .before .before .before .before .loop .inv) (c .before .before .before .before .before .before .before .pre .1) (c .before .before .before .before .before .before .before .pre .2)
 
--- src/flat_clauses.rt:143:14
 names-in-requires : tie.Need-names-in-requires Inv-loop μ-loop
-names-in-requires c κs = ?
+names-in-requires c κs = search needs
 
--- src/flat_clauses.rt:143:9
 add-x : tie.Need-add-x Inv-loop μ-loop
-add-x c = ?
+add-x c = omega (arith, name-byte _ _ (c .before .before .before .before .before .before .before .before .before .before .before .before .before .pre .0) (atoms-size (c .before .before .before .before .before .before .before .before .before .before .before .before .before)) _ _ (c .before .before .before .before .before .before .before .before .before .loop-test .taken) _ (c .before .before .before .before .before .before .before .before .before .before .loop .inv .name) _ (c .names-in .ensures))
 
--- src/flat_clauses.rt:144:9
 add-i : tie.Need-add-i Inv-loop μ-loop
-add-i c = ?
+add-i c = search needs
 
--- src/flat_clauses.rt:139:5
 loop-less : tie.Need-loop-less Inv-loop μ-loop
-loop-less c = ?
+loop-less c = search needs
 
--- src/flat_clauses.rt:139:5
 loop-again : tie.Need-loop-again Inv-loop μ-loop
-loop-again c = ?
+loop-again c = flats-more _ _ (c .before .before .before .before .before .before .before .before .before .before .before .before .before .pre .0) (atoms-size (c .before .before .before .before .before .before .before .before .before .before .before .before .before)) _ _ (c .before .before .before .before .before .before .before .before .before .loop-test .taken) _ _ _ _ _ _ (c .before .before .before .before .before .before .before .before .before .before .loop .inv) _ _ _ _ (c .before .before .before .before .before .put-entry .ensures) (c .names-in .ensures)
 
--- src/flat_clauses.rt:132:1
 same-length : tie.Need-same-length Inv-loop μ-loop
-same-length c = ?
+same-length c = c .before .loop .inv .left-size
 
--- src/flat_clauses.rt:132:1
 same-length-2 : tie.Need-same-length-2 Inv-loop μ-loop
-same-length-2 c = ?
+same-length-2 c = c .before .loop .inv .right-size
 
--- src/flat_clauses.rt:132:1
 returns : tie.Need-returns Inv-loop μ-loop
-returns c = ?
+returns c = flats-all _ _ (c .before .before .before .before .pre .0) _ _ (c .loop-test .left) _ _ _ _ _ (c .before .loop .inv)
 
 pub write-spec : {M : Type 1} → statement M
 write-spec =

@@ -1,61 +1,54 @@
+-- The implications before entry i, and those of the entries that are left.
+use Prim.Native.Nat.{_-_}
+use mathlib.Core.Path.{_≡_, refl}
+use lib.ListN.{length}
+use Rattle.clausify.proofs.Loops.{ImplicationsWritten, implications-none, name-byte, parts-in, implications-room, implications-more, implications-all}
 use borrow.Author.Needs.{needs}
 use native.Mathlib.Omega.{arith}
 use Rattle.clausify.proofs.implication_clauses.implications_of.Statement.{statement}
 use Rattle.clausify.proofs.implication_clauses.implications_of.Tie as tie
-use Rattle.clausify.proofs.implication_clauses.implications_of.Reads as reads
-use Rattle.clausify.proofs.implication_clauses.implications_of.Lts as lts
-use Rattle.clausify.proofs.implication_clauses.with_entry.Reads as with-entry-reads
-use Rattle.clausify.proofs.naming.names_in.Reads as names-in-reads
 
 abbrev Inv-loop : tie.InvT-loop
-Inv-loop names parts t₀ x₀ i₀ t x i = ?
+Inv-loop names parts t₀ x₀ i₀ t x i = ImplicationsWritten parts t x i
 
 abbrev μ-loop : tie.MeasureT-loop
-μ-loop names parts t₀ x₀ i₀ t x i = ?
+μ-loop names parts t₀ x₀ i₀ t x i = parts .count - i
 
--- src/implication_clauses.rt:70:5
+atoms-size : (c : tie.Start Inv-loop μ-loop) → length (c .args .names .atoms) ≡ 65
+atoms-size c = search needs
+
 loop-holds : tie.Need-loop-holds Inv-loop μ-loop
-loop-holds c = ?
+loop-holds c = implications-none _ _ (c .pre) _ refl
 
--- src/implication_clauses.rt:71:32
 cast-node : tie.Need-cast-node Inv-loop μ-loop
-cast-node c = ?
+cast-node c = search needs
 
--- src/implication_clauses.rt:71:20
 mul-node : tie.Need-mul-node Inv-loop μ-loop
-mul-node c = ?
+mul-node c = search needs
 
--- src/implication_clauses.rt:71:20
 element-copy-out-node : tie.Need-element-copy-out-node Inv-loop μ-loop
-element-copy-out-node c = ?
+element-copy-out-node c = search needs
 
--- src/implication_clauses.rt:73:9
 with-entry-requires : tie.Need-with-entry-requires Inv-loop μ-loop
-with-entry-requires c κs = ?
+with-entry-requires c κs = (implications-room _ _ (c .before .before .before .pre) _ (c .before .loop-test .taken) _ _ (c .before .before .loop .inv), parts-in _ _ (c .before .before .before .pre) (atoms-size (c .before .before .before)) _ _ (c .before .loop-test .taken))
 
--- src/implication_clauses.rt:74:14
 names-in-requires : tie.Need-names-in-requires Inv-loop μ-loop
-names-in-requires c κs = ?
+names-in-requires c κs = search needs
 
--- src/implication_clauses.rt:74:9
 add-x : tie.Need-add-x Inv-loop μ-loop
-add-x c = ?
+add-x c = omega (arith, name-byte _ _ (c .before .before .before .before .before .pre) (atoms-size (c .before .before .before .before .before)) _ _ (c .before .before .before .loop-test .taken) _ (c .before .before .before .before .loop .inv .name) _ (c .names-in .ensures))
 
--- src/implication_clauses.rt:75:9
 add-i : tie.Need-add-i Inv-loop μ-loop
-add-i c = ?
+add-i c = search needs
 
--- src/implication_clauses.rt:70:5
 loop-less : tie.Need-loop-less Inv-loop μ-loop
-loop-less c = ?
+loop-less c = search needs
 
--- src/implication_clauses.rt:70:5
 loop-again : tie.Need-loop-again Inv-loop μ-loop
-loop-again c = ?
+loop-again c = implications-more _ _ (c .before .before .before .before .before .pre) (atoms-size (c .before .before .before .before .before)) _ _ (c .before .before .before .loop-test .taken) _ _ (c .before .before .before .before .loop .inv) _ _ (c .before .with-entry .ensures) (c .names-in .ensures)
 
--- src/implication_clauses.rt:58:1
 returns : tie.Need-returns Inv-loop μ-loop
-returns c = ?
+returns c = implications-all _ _ (c .before .before .pre) _ _ (c .loop-test .left) _ (c .before .loop .inv)
 
 pub implications-of-spec : {M : Type 1} → statement M
 implications-of-spec =

@@ -1,54 +1,47 @@
+-- The implication of each kind of part.
+use mathlib.Core.Path.{_≡_}
+use lib.ListN.{length}
+use Rattle.clausify.proofs.Written.{letter-calls, falsum-calls, compound-parts, compound-calls, appended-calls, appended-none}
 use borrow.Author.Needs.{needs}
 use native.Mathlib.Omega.{arith}
 use Rattle.clausify.proofs.implication_clauses.with_entry.Statement.{statement}
 use Rattle.clausify.proofs.implication_clauses.with_entry.Tie as tie
-use Rattle.clausify.proofs.implication_clauses.with_entry.Reads as reads
-use Rattle.clausify.proofs.implication_clauses.with_entry.Lts as lts
-use Rattle.clausify.proofs.implication_clauses.with_part.Reads as with-part-reads
 
--- src/implication_clauses.rt:45:28
+atoms-size : (c : tie.Start) → length (c .args .t4 .atoms) ≡ 65
+atoms-size c = search needs
+
 enum-told : tie.Need-enum-told
 enum-told c = search needs
 
--- src/implication_clauses.rt:46:25
 enum-told-2 : tie.Need-enum-told-2
 enum-told-2 c = search needs
 
--- src/implication_clauses.rt:47:24
 enum-known-part : tie.Need-enum-known-part
 enum-known-part c = search needs
 
--- src/implication_clauses.rt:51:25
 cast-with-part : tie.Need-cast-with-part
 cast-with-part c = search needs
 
--- src/implication_clauses.rt:51:13
 element-copy-out-with-part : tie.Need-element-copy-out-with-part
-element-copy-out-with-part c = ?
+element-copy-out-with-part c = omega (arith, compound-parts _ 0 _ _ _ _ (c .before .part .given .1) (c .before .before .before .pre .1) .0 .0, atoms-size (c .before .before .before))
 
--- src/implication_clauses.rt:52:25
 cast-with-part-2 : tie.Need-cast-with-part-2
 cast-with-part-2 c = search needs
 
--- src/implication_clauses.rt:52:13
 element-copy-out-with-part-2 : tie.Need-element-copy-out-with-part-2
-element-copy-out-with-part-2 c = ?
+element-copy-out-with-part-2 c = omega (arith, compound-parts _ 0 _ _ _ _ (c .before .before .part .given .1) (c .before .before .before .before .pre .1) .1 .0, atoms-size (c .before .before .before .before))
 
--- src/implication_clauses.rt:47:36
 with-part-requires : tie.Need-with-part-requires
 with-part-requires c κs = search needs
 
--- src/implication_clauses.rt:40:1
 returns : tie.Need-returns
-returns c = ?
+returns c = appended-calls _ _ _ _ (letter-calls _ _ _ _ (c .enum-told .given .1)) (appended-none _)
 
--- src/implication_clauses.rt:40:1
 returns-2 : tie.Need-returns-2
-returns-2 c = ?
+returns-2 c = appended-calls _ _ _ _ (falsum-calls _ _ _ (c .enum-told2 .given .1)) (appended-none _)
 
--- src/implication_clauses.rt:40:1
 returns-3 : tie.Need-returns-3
-returns-3 c = ?
+returns-3 c = appended-calls _ _ _ _ (compound-calls _ _ _ _ _ _ (c .before .before .before .before .part .given .1) (c .before .before .before .before .before .before .pre .1)) (c .with-part .ensures)
 
 pub with-entry-spec : {M : Type 1} → statement M
 with-entry-spec =

@@ -1,56 +1,46 @@
+-- The letters before entry i, and those that are left.
+use Prim.Native.Nat.{_-_}
+use Rattle.clausify.proofs.Loops.{Counted, counted-none, counted-byte, counted-more, counted-all}
 use borrow.Author.Needs.{needs}
 use native.Mathlib.Omega.{arith}
 use Rattle.clausify.proofs.naming.letter_count.Statement.{statement}
 use Rattle.clausify.proofs.naming.letter_count.Tie as tie
-use Rattle.clausify.proofs.naming.letter_count.Reads as reads
-use Rattle.clausify.proofs.naming.letter_count.Lts as lts
-use Rattle.clausify.proofs.naming.letters_in.Reads as letters-in-reads
 
 abbrev Inv-loop : tie.InvT-loop
-Inv-loop parts letters₀ i₀ letters i = ?
+Inv-loop parts letters₀ i₀ letters i = Counted parts letters i
 
 abbrev μ-loop : tie.MeasureT-loop
-μ-loop parts letters₀ i₀ letters i = ?
+μ-loop parts letters₀ i₀ letters i = parts .count - i
 
--- src/naming.rt:51:5
 loop-holds : tie.Need-loop-holds Inv-loop μ-loop
-loop-holds c = ?
+loop-holds c = counted-none _ (c .pre)
 
--- src/naming.rt:52:32
 cast-node : tie.Need-cast-node Inv-loop μ-loop
-cast-node c = ?
+cast-node c = search needs
 
--- src/naming.rt:52:20
 mul-node : tie.Need-mul-node Inv-loop μ-loop
-mul-node c = ?
+mul-node c = search needs
 
--- src/naming.rt:52:20
 element-copy-out-node : tie.Need-element-copy-out-node Inv-loop μ-loop
-element-copy-out-node c = ?
+element-copy-out-node c = search needs
 
--- src/naming.rt:54:20
 letters-in-requires : tie.Need-letters-in-requires Inv-loop μ-loop
-letters-in-requires c κs = ?
+letters-in-requires c κs = search needs
 
--- src/naming.rt:54:9
 add-letters : tie.Need-add-letters Inv-loop μ-loop
-add-letters c = ?
+add-letters c = omega (arith, counted-byte _ (c .before .before .before .before .pre) _ _ (c .before .before .before .loop .inv) _ _ (c .letters-in .ensures))
 
--- src/naming.rt:55:9
 add-i : tie.Need-add-i Inv-loop μ-loop
-add-i c = ?
+add-i c = search needs
 
--- src/naming.rt:51:5
 loop-less : tie.Need-loop-less Inv-loop μ-loop
-loop-less c = ?
+loop-less c = search needs
 
--- src/naming.rt:51:5
 loop-again : tie.Need-loop-again Inv-loop μ-loop
-loop-again c = ?
+loop-again c = counted-more _ (c .before .before .before .before .pre) _ _ (c .before .before .before .loop .inv) _ _ (c .before .before .loop-test .taken) (c .letters-in .ensures)
 
--- src/naming.rt:45:1
 returns : tie.Need-returns Inv-loop μ-loop
-returns c = ?
+returns c = counted-all _ (c .before .before .pre) _ _ (c .before .loop .inv) (c .loop-test .left)
 
 pub letter-count-spec : {M : Type 1} → statement M
 letter-count-spec =

@@ -1,0 +1,23 @@
+-- The refusal of the text, or the answer to its goal.
+use denote.Ref.{now}
+use Rattle.syntax.specs.Judge.{judge}
+use Rattle.syntax.proofs.Judge.{judge-right}
+use Rattle.clausify.proofs.Texts.{settled-refused, settled-asked}
+use borrow.Author.Needs.{needs}
+use Rattle.clausify.proofs.settle.Statement.{statement}
+use Rattle.clausify.proofs.settle.Tie as tie
+
+clausify-requires : tie.Need-clausify-requires
+clausify-requires c κs = search needs
+
+ask-requires : tie.Need-ask-requires
+ask-requires c κs = search needs
+
+returns : tie.Need-returns
+returns c = settled-asked (now (c .before .before .before .before .before .before .args .text)) (judge (now (c .before .before .before .before .before .before .args .text))) (judge-right (now (c .before .before .before .before .before .before .args .text))) (c .before .before .before .before .clausify .result) (c .before .before .before .before .clausify .ensures) (c .before .before .if1 .taken) (c .before .ask .result) (c .before .ask .ensures)
+
+returns-2 : tie.Need-returns-2
+returns-2 c = settled-refused (judge (now (c .before .before .before .before .before .args .text))) (c .before .before .before .clausify .result) (c .before .before .before .clausify .ensures) (c .before .if1 .left)
+
+pub settle-spec : {M : Type 1} → statement M
+settle-spec = tie.close (tie.spec clausify-requires ask-requires returns returns-2)
