@@ -128,10 +128,7 @@ impl State<'_> {
         });
         let older = atoms & !recent;
         let end = self.trail.iter().rposition(|k| k.atom & older != 0);
-        let back = self
-            .levels
-            .iter()
-            .position(|&l| end.map_or(true, |e| l > e));
+        let back = self.levels.iter().position(|&l| end.is_none_or(|e| l > e));
         self.undo(back.unwrap_or(0));
     }
 
@@ -164,7 +161,7 @@ mod tests {
             let atoms = 1 + random.below(7) as u8;
             let size = 1u64 << atoms;
             let count = random.below(24);
-            let set = |random: &mut Random| random.next() & random.next() & (size - 1);
+            let set = |random: &mut Random| random.draw() & random.draw() & (size - 1);
             let rows: Vec<Flat> = (0..count)
                 .map(|_| Flat {
                     left: set(&mut random),

@@ -204,7 +204,7 @@ mod tests {
     use crate::report::settle_text;
 
     fn sheet(text: &str) -> Vec<u8> {
-        let settled = settle_text(text.as_bytes()).ok().expect(text);
+        let settled = settle_text(text.as_bytes()).expect(text);
         write(&settled.problem, &settled.answer)
     }
 
@@ -212,7 +212,7 @@ mod tests {
     fn written_sheets_are_accepted() {
         assert_eq!(sheet("p>p").len(), 83);
         for text in ["p>p", "0>0", "p>q>p", "(p>q)=(~q>~p)|~~p&p"] {
-            let settled = settle_text(text.as_bytes()).ok().expect(text);
+            let settled = settle_text(text.as_bytes()).expect(text);
             let word = match settled.answer.verdict {
                 Verdict::Valid => "accepted valid\n",
                 Verdict::Refuted(_) => "accepted refuted\n",
