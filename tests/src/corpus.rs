@@ -22,3 +22,24 @@ fn entry(line: &'static str) -> Entry {
     };
     Entry { valid, text, name }
 }
+
+#[cfg(test)]
+mod tests {
+    use super::*;
+    use crate::reader::read;
+    use crate::sequent::provable;
+
+    /// All but a few large ones are within the reach of the sequent prover.
+    #[test]
+    fn verdicts_by_the_sequent_prover() {
+        let mut out_of_reach = Vec::new();
+        for entry in entries() {
+            let formula = read(entry.text.as_bytes()).expect(entry.text);
+            match provable(&formula, 20_000) {
+                Some(verdict) => assert_eq!(verdict, entry.valid, "{}", entry.name),
+                None => out_of_reach.push(entry.name),
+            }
+        }
+        assert!(out_of_reach.len() < 8, "{out_of_reach:?}");
+    }
+}

@@ -78,14 +78,15 @@ impl State<'_> {
                 let left = row.left & !self.has;
                 let right = row.right & !self.lacks;
                 is_model &= left != 0;
-                if left | right == 0 {
+                let open = left | right;
+                if open == 0 {
                     return Outcome::Conflict(row);
                 }
-                if left.count_ones() + right.count_ones() == 1 {
+                if open & (open - 1) == 0 && left & right == 0 {
                     self.lacks |= left;
                     self.has |= right;
                     self.trail.push(Known {
-                        atom: left | right,
+                        atom: open,
                         reason: Some(row),
                     });
                 }

@@ -71,34 +71,44 @@ struct Search<'a> {
 }
 
 impl Search<'_> {
-    /// All worlds of a countermodel, or none if a step was learned.
+    /// All worlds of a countermodel, or none if a step was learned. A realized pair stays so while worlds only come, so
+    /// one pass over the pairs meets each first one that is not realized.
     fn worlds_from(&mut self, root: u64) -> Result<Option<Vec<u64>>, Refusal> {
         let mut worlds = vec![root];
-        while let Some((world, index)) = self.first_unrealized(&worlds) {
-            let Implication { a, b, .. } = self.problem.implications[index];
-            let assumed = world | single(a);
-            self.questions += 1;
-            let Some(model) = least(&self.rows, self.problem.atoms, assumed, b) else {
-                self.learn(index, assumed)?;
-                return Ok(None);
-            };
-            if worlds.len() == MOST_WORLDS {
-                return Err(Refusal::plain(11));
+        let mut place = 0;
+        while place < worlds.len() {
+            for index in 0..self.problem.implications.len() {
+                if !self.realize(index, worlds[place], &mut worlds)? {
+                    return Ok(None);
+                }
             }
-            worlds.push(model);
+            place += 1;
         }
         Ok(Some(worlds))
     }
 
-    fn first_unrealized(&self, worlds: &[u64]) -> Option<(u64, usize)> {
-        let implications = &self.problem.implications;
-        let unrealized = |&world: &u64| {
-            let index = implications
-                .iter()
-                .position(|i| !realizes(world, worlds, i))?;
-            Some((world, index))
-        };
-        worlds.iter().find_map(unrealized)
+    /// Sees to it that a world realizes an implication; false if that led to a learned step.
+    fn realize(
+        &mut self,
+        index: usize,
+        world: u64,
+        worlds: &mut Vec<u64>,
+    ) -> Result<bool, Refusal> {
+        let implication = &self.problem.implications[index];
+        if realizes(world, worlds, implication) {
+            return Ok(true);
+        }
+        let assumed = world | single(implication.a);
+        self.questions += 1;
+        match least(&self.rows, self.problem.atoms, assumed, implication.b) {
+            None => self.learn(index, assumed)?,
+            Some(_) if worlds.len() == MOST_WORLDS => return Err(Refusal::plain(11)),
+            Some(model) => {
+                worlds.push(model);
+                return Ok(true);
+            }
+        }
+        Ok(false)
     }
 
     fn learn(&mut self, index: usize, mut assumed: u64) -> Result<(), Refusal> {
