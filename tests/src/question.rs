@@ -5,106 +5,153 @@
 
 use crate::naming::{single, Flat};
 
-/// Whether every model of the rows that includes `given` has `asked`.
-pub fn proves(rows: &[Flat], atoms: u8, given: u64, asked: u8) -> bool {
-    least(rows, atoms, given, asked).is_none()
+/// Flat clauses, with the rows that have each atom on the left and on the right.
+pub struct Clauses {
+    rows: Vec<Flat>,
+    on_left: Vec<Vec<usize>>,
+    on_right: Vec<Vec<usize>>,
 }
 
-/// The smallest model of the rows over the first `atoms` that includes `given` and lacks `lacked`.
-pub fn least(rows: &[Flat], atoms: u8, given: u64, lacked: u8) -> Option<u64> {
+impl Clauses {
+    pub fn new(rows: &[Flat]) -> Clauses {
+        let mut clauses = Clauses {
+            rows: Vec::new(),
+            on_left: vec![Vec::new(); 64],
+            on_right: vec![Vec::new(); 64],
+        };
+        for &row in rows {
+            clauses.push(row);
+        }
+        clauses
+    }
+
+    pub fn push(&mut self, row: Flat) {
+        for atom in 0..64 {
+            if row.left >> atom & 1 == 1 {
+                self.on_left[atom].push(self.rows.len());
+            }
+            if row.right >> atom & 1 == 1 {
+                self.on_right[atom].push(self.rows.len());
+            }
+        }
+        self.rows.push(row);
+    }
+
+    fn hold_at(&self, model: u64) -> bool {
+        let fails = |row: &Flat| row.left & !model == 0 && row.right & model == 0;
+        !self.rows.iter().any(fails)
+    }
+}
+
+/// Whether every model of the clauses that includes `given` has `asked`.
+pub fn proves(clauses: &Clauses, atoms: u8, given: u64, asked: u8) -> bool {
+    least(clauses, atoms, given, asked).is_none()
+}
+
+/// The smallest model of the clauses over the first `atoms` that includes `given` and lacks `lacked`.
+pub fn least(clauses: &Clauses, atoms: u8, given: u64, lacked: u8) -> Option<u64> {
     let outside = if atoms < 64 { u64::MAX << atoms } else { 0 };
     let lacks = outside | single(lacked);
     if given & lacks != 0 {
         return None;
     }
     let mut state = State {
-        rows,
+        clauses,
         kept: Vec::new(),
         has: given,
         lacks,
         levels: Vec::new(),
         trail: Vec::with_capacity(64),
+        followed: 0,
     };
+    clauses
+        .rows
+        .iter()
+        .try_for_each(|&row| state.visit(row))
+        .ok()?;
     loop {
         match state.propagate() {
-            Outcome::Model => return Some(state.has),
-            Outcome::Open => state.decide(),
-            Outcome::Conflict(row) => {
-                if state.levels.is_empty() {
-                    return None;
-                }
-                state.learn(row);
-            }
+            Ok(()) if clauses.hold_at(state.has) => return Some(state.has),
+            Ok(()) => state.decide(),
+            Err(_) if state.levels.is_empty() => return None,
+            Err(conflict) => state.learn(conflict),
         }
     }
 }
 
-enum Outcome {
-    /// What is had, with every open atom lacked, is a model.
-    Model,
-    Open,
-    Conflict(Flat),
-}
-
 /// An atom that became known by a decision (no reason) or by a clause.
 struct Known {
-    atom: u64,
+    atom: u8,
     reason: Option<Flat>,
 }
 
 fn atoms_of(trail: &[Known]) -> u64 {
-    trail.iter().fold(0, |all, known| all | known.atom)
+    trail.iter().fold(0, |all, known| all | single(known.atom))
 }
 
 struct State<'a> {
-    rows: &'a [Flat],
+    clauses: &'a Clauses,
     kept: Vec<Flat>,
     has: u64,
     lacks: u64,
     /// Where in the trail each decision stands.
     levels: Vec<usize>,
     trail: Vec<Known>,
+    /// How much of the trail has been followed into its clauses.
+    followed: usize,
 }
 
 impl State<'_> {
-    fn propagate(&mut self) -> Outcome {
+    /// Takes what a clause says now; a clause that fails is a conflict.
+    fn visit(&mut self, row: Flat) -> Result<(), Flat> {
+        if row.left & self.lacks != 0 || row.right & self.has != 0 {
+            return Ok(());
+        }
+        let left = row.left & !self.has;
+        let right = row.right & !self.lacks;
+        let open = left | right;
+        if open == 0 {
+            return Err(row);
+        }
+        if open & (open - 1) == 0 && left & right == 0 {
+            self.lacks |= left;
+            self.has |= right;
+            self.trail.push(Known {
+                atom: open.trailing_zeros() as u8,
+                reason: Some(row),
+            });
+        }
+        Ok(())
+    }
+
+    fn propagate(&mut self) -> Result<(), Flat> {
         loop {
-            let before = self.trail.len();
-            let mut is_model = true;
-            for &row in self.rows.iter().chain(&self.kept) {
-                if row.left & self.lacks != 0 || row.right & self.has != 0 {
-                    continue;
-                }
-                let left = row.left & !self.has;
-                let right = row.right & !self.lacks;
-                is_model &= left != 0;
-                let open = left | right;
-                if open == 0 {
-                    return Outcome::Conflict(row);
-                }
-                if open & (open - 1) == 0 && left & right == 0 {
-                    self.lacks |= left;
-                    self.has |= right;
-                    self.trail.push(Known {
-                        atom: open,
-                        reason: Some(row),
-                    });
+            while let Some(known) = self.trail.get(self.followed) {
+                self.followed += 1;
+                let clauses = self.clauses;
+                let rows = if self.has & single(known.atom) != 0 {
+                    &clauses.on_left[usize::from(known.atom)]
+                } else {
+                    &clauses.on_right[usize::from(known.atom)]
+                };
+                for &row in rows {
+                    self.visit(clauses.rows[row])?;
                 }
             }
-            if is_model {
-                return Outcome::Model;
+            for index in 0..self.kept.len() {
+                self.visit(self.kept[index])?;
             }
-            if self.trail.len() == before {
-                return Outcome::Open;
+            if self.followed == self.trail.len() {
+                return Ok(());
             }
         }
     }
 
     fn decide(&mut self) {
         let open = !(self.has | self.lacks);
-        let atom = 1 << (63 - open.leading_zeros());
+        let atom = 63 - open.leading_zeros() as u8;
         self.levels.push(self.trail.len());
-        self.lacks |= atom;
+        self.lacks |= single(atom);
         self.trail.push(Known { atom, reason: None });
     }
 
@@ -118,9 +165,9 @@ impl State<'_> {
             if (atoms & recent).count_ones() == 1 {
                 break;
             }
-            if let (Some(reason), true) = (known.reason, atoms & known.atom != 0) {
+            if let (Some(reason), true) = (known.reason, atoms & single(known.atom) != 0) {
                 atoms |= (reason.left | reason.right) & decided;
-                atoms &= !known.atom;
+                atoms &= !single(known.atom);
             }
         }
         self.kept.push(Flat {
@@ -128,9 +175,9 @@ impl State<'_> {
             right: atoms & self.lacks,
         });
         let older = atoms & !recent;
-        let end = self.trail.iter().rposition(|k| k.atom & older != 0);
-        let back = self.levels.iter().position(|&l| end.is_none_or(|e| l > e));
-        self.undo(back.unwrap_or(0));
+        let is_older = |known: &Known| single(known.atom) & older != 0;
+        let end = self.trail.iter().rposition(is_older).map_or(0, |e| e + 1);
+        self.undo(self.levels.partition_point(|&start| start < end));
     }
 
     /// Forgets everything from the given decision on.
@@ -141,6 +188,7 @@ impl State<'_> {
         self.lacks &= !gone;
         self.trail.truncate(start);
         self.levels.truncate(level);
+        self.followed = start;
     }
 }
 
@@ -151,8 +199,8 @@ mod tests {
     use crate::random::Random;
 
     fn holds(rows: &[Flat], model: u64) -> bool {
-        let fails = |row: &Flat| row.left & !model == 0 && row.right & model == 0;
-        !rows.iter().any(fails)
+        let holds = |row: &Flat| row.left & !model != 0 || row.right & model != 0;
+        rows.iter().all(holds)
     }
 
     #[test]
@@ -177,7 +225,8 @@ mod tests {
             };
             let wanted =
                 (0..size).find(|m| given & !m == 0 && m & single(lacked) == 0 && holds(&rows, *m));
-            assert_eq!(least(&rows, atoms, given, lacked), wanted);
+            let clauses = Clauses::new(&rows);
+            assert_eq!(least(&clauses, atoms, given, lacked), wanted);
         }
     }
 }

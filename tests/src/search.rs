@@ -1,7 +1,7 @@
 //! The fixed search.
 
 use crate::naming::{single, Flat, Implication, Problem};
-use crate::question::{least, proves};
+use crate::question::{least, proves, Clauses};
 use crate::refusal::Refusal;
 
 const MOST_WORLDS: usize = 256;
@@ -35,21 +35,25 @@ pub fn learned(implication: &Implication, assumed: u64) -> Flat {
 }
 
 pub fn realizes(world: u64, worlds: &[u64], implication: &Implication) -> bool {
-    let Implication { a, b, c } = *implication;
-    let above = |v: u64| world & !v == 0 && world != v && v & single(a) != 0 && v & single(b) == 0;
-    world & (single(a) | single(b) | single(c)) != 0 || worlds.iter().any(|&v| above(v))
+    let [a, b, c] = [implication.a, implication.b, implication.c].map(single);
+    if world & (a | b | c) != 0 {
+        return true;
+    }
+    // A world that has a is not the one at hand, so to include it is to include it strictly.
+    let wanted = world | a;
+    worlds.iter().any(|v| v & wanted == wanted && v & b == 0)
 }
 
 pub fn settle(problem: &Problem) -> Result<Answer, Refusal> {
     let mut search = Search {
         problem,
-        rows: problem.flats.clone(),
+        clauses: Clauses::new(&problem.flats),
         steps: Vec::new(),
         questions: 0,
     };
     loop {
         search.questions += 1;
-        let verdict = match least(&search.rows, problem.atoms, 0, problem.goal) {
+        let verdict = match least(&search.clauses, problem.atoms, 0, problem.goal) {
             None => Some(Verdict::Valid),
             Some(root) => search.worlds_from(root)?.map(Verdict::Refuted),
         };
@@ -65,7 +69,7 @@ pub fn settle(problem: &Problem) -> Result<Answer, Refusal> {
 
 struct Search<'a> {
     problem: &'a Problem,
-    rows: Vec<Flat>,
+    clauses: Clauses,
     steps: Vec<Step>,
     questions: u32,
 }
@@ -100,7 +104,7 @@ impl Search<'_> {
         }
         let assumed = world | single(implication.a);
         self.questions += 1;
-        match least(&self.rows, self.problem.atoms, assumed, implication.b) {
+        match least(&self.clauses, self.problem.atoms, assumed, implication.b) {
             None => self.learn(index, assumed)?,
             Some(_) if worlds.len() == MOST_WORLDS => return Err(Refusal::plain(11)),
             Some(model) => {
@@ -118,11 +122,11 @@ impl Search<'_> {
         let implication = &self.problem.implications[index];
         for atom in 0..self.problem.atoms {
             let rest = assumed & !single(atom);
-            if rest != assumed && proves(&self.rows, self.problem.atoms, rest, implication.b) {
+            if rest != assumed && proves(&self.clauses, self.problem.atoms, rest, implication.b) {
                 assumed = rest;
             }
         }
-        self.rows.push(learned(implication, assumed));
+        self.clauses.push(learned(implication, assumed));
         self.steps.push(Step {
             implication: index as u8,
             assumed,

@@ -1,7 +1,7 @@
 //! The answer sheet: written of an answer, and judged whoever made it.
 
 use crate::naming::{single, Flat, Implication, Problem, FALSE};
-use crate::question::proves;
+use crate::question::{proves, Clauses};
 use crate::refusal::Refusal;
 use crate::search::{learned, realizes, Answer, Step, Verdict};
 
@@ -172,7 +172,7 @@ fn closed(problem: &Problem) -> bool {
 }
 
 fn wrong_step(problem: &Problem, steps: &[Step]) -> Option<usize> {
-    let mut known = problem.flats.clone();
+    let mut known = Clauses::new(&problem.flats);
     for (place, step) in steps.iter().enumerate() {
         let implication = &problem.implications[usize::from(step.implication)];
         if !proves(&known, problem.atoms, step.assumed, implication.b) {
