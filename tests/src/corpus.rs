@@ -7,10 +7,7 @@ pub struct Entry {
 }
 
 pub fn entries() -> impl Iterator<Item = Entry> {
-    include_str!("../formulas.txt")
-        .lines()
-        .filter(|line| !line.is_empty() && !line.starts_with('#'))
-        .map(entry)
+    include_str!("../formulas.txt").lines().filter(|line| !line.is_empty() && !line.starts_with('#')).map(entry)
 }
 
 fn entry(line: &'static str) -> Entry {

@@ -1,5 +1,6 @@
 //! Document 01 implemented a second time, apart from the proved code, to hold the proved code against.
 
+pub mod certificate;
 pub mod corpus;
 pub mod forcing;
 pub mod formula;
@@ -12,4 +13,3 @@ pub mod refusal;
 pub mod report;
 pub mod search;
 pub mod sequent;
-pub mod sheet;

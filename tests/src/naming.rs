@@ -21,10 +21,7 @@ pub struct Implication {
 
 impl Implication {
     pub fn closing(&self) -> Option<Flat> {
-        (self.b != FALSE).then(|| Flat {
-            left: single(self.b),
-            right: single(self.c),
-        })
+        (self.b != FALSE).then(|| Flat { left: single(self.b), right: single(self.c) })
     }
 }
 
@@ -47,12 +44,7 @@ pub fn single(atom: u8) -> u64 {
 
 pub fn problem_of(formula: &[Part]) -> Problem {
     let atoms = atoms_of(formula);
-    let mut problem = Problem {
-        atoms: 0,
-        flats: Vec::new(),
-        implications: Vec::new(),
-        goal: atoms[atoms.len() - 1],
-    };
+    let mut problem = Problem { atoms: 0, flats: Vec::new(), implications: Vec::new(), goal: atoms[atoms.len() - 1] };
     for (part, &x) in formula.iter().zip(&atoms) {
         if let Part::Join(connective, left, right) = *part {
             problem.join(connective, x, atoms[left], atoms[right]);
@@ -73,10 +65,7 @@ pub fn atoms_of(formula: &[Part]) -> Vec<u8> {
     };
     let atom = |part: &Part| match part {
         Part::False => FALSE,
-        Part::Letter(letter) => letters
-            .iter()
-            .position(|l| l == letter)
-            .expect("a letter listed") as u8,
+        Part::Letter(letter) => letters.iter().position(|l| l == letter).expect("a letter listed") as u8,
         Part::Join(Connective::Equal, ..) => name(3),
         Part::Join(..) => name(1),
     };
@@ -118,10 +107,7 @@ impl Problem {
     fn flat(&mut self, left: &[u8], right: &[u8]) {
         let set = |atoms: &[u8]| atoms.iter().fold(0, |all, &atom| all | single(atom));
         if !left.contains(&FALSE) {
-            self.flats.push(Flat {
-                left: set(left),
-                right: set(right),
-            });
+            self.flats.push(Flat { left: set(left), right: set(right) });
         }
     }
 }

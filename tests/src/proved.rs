@@ -6,18 +6,12 @@ const ROOM: usize = 16_384;
 #[repr(u8)]
 pub enum Task {
     Settle = 0,
-    WriteSheet = 1,
-    CheckSheet = 2,
+    WriteCertificate = 1,
+    CheckCertificate = 2,
 }
 
 extern "C" {
-    fn zestanchor(
-        task: u8,
-        input: *const u8,
-        input_len: usize,
-        output: *mut u8,
-        output_len: usize,
-    ) -> usize;
+    fn zestanchor(task: u8, input: *const u8, input_len: usize, output: *mut u8, output_len: usize) -> usize;
 }
 
 /// What the library writes for an input.
@@ -31,13 +25,5 @@ pub fn call(task: Task, input: &[u8]) -> Vec<u8> {
 /// The same into given bytes: how many were written.
 pub fn call_into(task: u8, input: &[u8], output: &mut [u8]) -> usize {
     // SAFETY: the library reads `input` and writes `output` within the lengths given with them.
-    unsafe {
-        zestanchor(
-            task,
-            input.as_ptr(),
-            input.len(),
-            output.as_mut_ptr(),
-            output.len(),
-        )
-    }
+    unsafe { zestanchor(task, input.as_ptr(), input.len(), output.as_mut_ptr(), output.len()) }
 }

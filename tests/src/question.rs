@@ -14,11 +14,7 @@ pub struct Clauses {
 
 impl Clauses {
     pub fn new(rows: &[Flat]) -> Clauses {
-        let mut clauses = Clauses {
-            rows: Vec::new(),
-            on_left: vec![Vec::new(); 64],
-            on_right: vec![Vec::new(); 64],
-        };
+        let mut clauses = Clauses { rows: Vec::new(), on_left: vec![Vec::new(); 64], on_right: vec![Vec::new(); 64] };
         for &row in rows {
             clauses.push(row);
         }
@@ -64,11 +60,7 @@ pub fn least(clauses: &Clauses, atoms: u8, given: u64, lacked: u8) -> Option<u64
         trail: Vec::with_capacity(64),
         followed: 0,
     };
-    clauses
-        .rows
-        .iter()
-        .try_for_each(|&row| state.visit(row))
-        .ok()?;
+    clauses.rows.iter().try_for_each(|&row| state.visit(row)).ok()?;
     loop {
         match state.propagate() {
             Ok(()) if clauses.hold_at(state.has) => return Some(state.has),
@@ -116,10 +108,7 @@ impl State<'_> {
         if open & (open - 1) == 0 && left & right == 0 {
             self.lacks |= left;
             self.has |= right;
-            self.trail.push(Known {
-                atom: open.trailing_zeros() as u8,
-                reason: Some(row),
-            });
+            self.trail.push(Known { atom: open.trailing_zeros() as u8, reason: Some(row) });
         }
         Ok(())
     }
@@ -170,10 +159,7 @@ impl State<'_> {
                 atoms &= !single(known.atom);
             }
         }
-        self.kept.push(Flat {
-            left: atoms & self.has,
-            right: atoms & self.lacks,
-        });
+        self.kept.push(Flat { left: atoms & self.has, right: atoms & self.lacks });
         let older = atoms & !recent;
         let is_older = |known: &Known| single(known.atom) & older != 0;
         let end = self.trail.iter().rposition(is_older).map_or(0, |e| e + 1);
@@ -211,20 +197,11 @@ mod tests {
             let size = 1u64 << atoms;
             let count = random.below(24);
             let set = |random: &mut Random| random.draw() & random.draw() & (size - 1);
-            let rows: Vec<Flat> = (0..count)
-                .map(|_| Flat {
-                    left: set(&mut random),
-                    right: set(&mut random),
-                })
-                .collect();
+            let rows: Vec<Flat> =
+                (0..count).map(|_| Flat { left: set(&mut random), right: set(&mut random) }).collect();
             let given = set(&mut random) & set(&mut random);
-            let lacked = if random.below(3) == 0 {
-                FALSE
-            } else {
-                random.below(atoms as usize) as u8
-            };
-            let wanted =
-                (0..size).find(|m| given & !m == 0 && m & single(lacked) == 0 && holds(&rows, *m));
+            let lacked = if random.below(3) == 0 { FALSE } else { random.below(atoms as usize) as u8 };
+            let wanted = (0..size).find(|m| given & !m == 0 && m & single(lacked) == 0 && holds(&rows, *m));
             let clauses = Clauses::new(&rows);
             assert_eq!(least(&clauses, atoms, given, lacked), wanted);
         }

@@ -119,8 +119,7 @@ impl Stacks {
                 Waiting::Not => true,
                 Waiting::Between(earlier) => {
                     let to_left = tightness(connective) > 1;
-                    tightness(earlier) > tightness(connective)
-                        || to_left && tightness(earlier) == tightness(connective)
+                    tightness(earlier) > tightness(connective) || to_left && tightness(earlier) == tightness(connective)
                 }
             };
             if !applies {
@@ -182,14 +181,8 @@ mod tests {
         assert_eq!(refused(&" ".repeat(4097)), Refusal::plain(1));
         assert_eq!(refused(&"(".repeat(64)), Refusal::at(3, 64));
         assert_eq!(refused(&"(".repeat(65)), Refusal::plain(2));
-        assert_eq!(
-            refused(&(")".to_string() + &"(".repeat(65))),
-            Refusal::at(3, 0)
-        );
-        assert_eq!(
-            refused(&(")".to_string() + &"(".repeat(66))),
-            Refusal::plain(2)
-        );
+        assert_eq!(refused(&(")".to_string() + &"(".repeat(65))), Refusal::at(3, 0));
+        assert_eq!(refused(&(")".to_string() + &"(".repeat(66))), Refusal::plain(2));
         let deep = "(".repeat(64) + "p" + &")".repeat(64);
         assert_eq!(read(deep.as_bytes()), Ok(vec![Part::Letter(b'p')]));
         let long = "p".to_string() + &" ".repeat(4095);

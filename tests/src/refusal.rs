@@ -10,17 +10,11 @@ pub struct Refusal {
 
 impl Refusal {
     pub fn plain(number: u8) -> Refusal {
-        Refusal {
-            number,
-            place: None,
-        }
+        Refusal { number, place: None }
     }
 
     pub fn at(number: u8, place: usize) -> Refusal {
-        Refusal {
-            number,
-            place: Some(place),
-        }
+        Refusal { number, place: Some(place) }
     }
 }
 

@@ -17,11 +17,7 @@ pub fn settle_text(text: &[u8]) -> Result<Settled, Refusal> {
     let formula = read(text)?;
     let problem = problem_of(&formula);
     let answer = settle(&problem)?;
-    Ok(Settled {
-        formula,
-        problem,
-        answer,
-    })
+    Ok(Settled { formula, problem, answer })
 }
 
 pub fn report(outcome: &Result<Settled, Refusal>) -> String {
@@ -30,12 +26,8 @@ pub fn report(outcome: &Result<Settled, Refusal>) -> String {
         Ok(settled) => settled,
     };
     let answer = &settled.answer;
-    let figures = format!(
-        "atoms {} questions {} learned {}\n",
-        settled.problem.atoms,
-        answer.questions,
-        answer.steps.len()
-    );
+    let figures =
+        format!("atoms {} questions {} learned {}\n", settled.problem.atoms, answer.questions, answer.steps.len());
     let step = |s: &crate::search::Step| format!("step {} {}\n", s.implication, s.assumed);
     let world = |w: &u64| format!("world {w}\n");
     match &answer.verdict {
@@ -60,14 +52,10 @@ mod tests {
 
     #[test]
     fn cases_of_document_01() {
-        let peirce =
-            "refuted\natoms 5 questions 9 learned 1\nworld 0\nworld 25\nworld 20\nworld 8\n";
+        let peirce = "refuted\natoms 5 questions 9 learned 1\nworld 0\nworld 25\nworld 20\nworld 8\n";
         let cases = [
             ("((p>q)>p)>p", peirce),
-            (
-                "p|~p",
-                "refuted\natoms 3 questions 2 learned 0\nworld 0\nworld 5\n",
-            ),
+            ("p|~p", "refuted\natoms 3 questions 2 learned 0\nworld 0\nworld 5\n"),
             ("p>p", "valid\natoms 2 questions 3 learned 1\nstep 0 1\n"),
             ("0", "refuted\natoms 1 questions 1 learned 0\nworld 0\n"),
             ("0>0", "valid\natoms 1 questions 1 learned 0\n"),

@@ -28,10 +28,7 @@ pub struct Answer {
 
 /// The clause that a step of an implication brings.
 pub fn learned(implication: &Implication, assumed: u64) -> Flat {
-    Flat {
-        left: assumed & !single(implication.a),
-        right: single(implication.c),
-    }
+    Flat { left: assumed & !single(implication.a), right: single(implication.c) }
 }
 
 pub fn realizes(world: u64, worlds: &[u64], implication: &Implication) -> bool {
@@ -45,12 +42,7 @@ pub fn realizes(world: u64, worlds: &[u64], implication: &Implication) -> bool {
 }
 
 pub fn settle(problem: &Problem) -> Result<Answer, Refusal> {
-    let mut search = Search {
-        problem,
-        clauses: Clauses::new(&problem.flats),
-        steps: Vec::new(),
-        questions: 0,
-    };
+    let mut search = Search { problem, clauses: Clauses::new(&problem.flats), steps: Vec::new(), questions: 0 };
     loop {
         search.questions += 1;
         let verdict = match least(&search.clauses, problem.atoms, 0, problem.goal) {
@@ -58,11 +50,7 @@ pub fn settle(problem: &Problem) -> Result<Answer, Refusal> {
             Some(root) => search.worlds_from(root)?.map(Verdict::Refuted),
         };
         if let Some(verdict) = verdict {
-            return Ok(Answer {
-                verdict,
-                steps: search.steps,
-                questions: search.questions,
-            });
+            return Ok(Answer { verdict, steps: search.steps, questions: search.questions });
         }
     }
 }
@@ -92,12 +80,7 @@ impl Search<'_> {
     }
 
     /// Sees to it that a world realizes an implication; false if that led to a learned step.
-    fn realize(
-        &mut self,
-        index: usize,
-        world: u64,
-        worlds: &mut Vec<u64>,
-    ) -> Result<bool, Refusal> {
+    fn realize(&mut self, index: usize, world: u64, worlds: &mut Vec<u64>) -> Result<bool, Refusal> {
         let implication = &self.problem.implications[index];
         if realizes(world, worlds, implication) {
             return Ok(true);
@@ -127,10 +110,7 @@ impl Search<'_> {
             }
         }
         self.clauses.push(learned(implication, assumed));
-        self.steps.push(Step {
-            implication: index as u8,
-            assumed,
-        });
+        self.steps.push(Step { implication: index as u8, assumed });
         Ok(())
     }
 }

@@ -24,20 +24,13 @@ struct Prover {
 
 /// Whether the formula is provable, or nothing if that takes more than `budget` sequents.
 pub fn provable(formula: &[Part], budget: usize) -> Option<bool> {
-    let mut prover = Prover {
-        nodes: Vec::new(),
-        numbers: HashMap::new(),
-        settled: HashMap::new(),
-        budget,
-    };
+    let mut prover = Prover { nodes: Vec::new(), numbers: HashMap::new(), settled: HashMap::new(), budget };
     let mut numbers: Vec<usize> = Vec::new();
     for part in formula {
         let number = match *part {
             Part::False => prover.number(Node::False),
             Part::Letter(letter) => prover.number(Node::Letter(letter)),
-            Part::Join(connective, left, right) => {
-                prover.join(connective, numbers[left], numbers[right])
-            }
+            Part::Join(connective, left, right) => prover.join(connective, numbers[left], numbers[right]),
         };
         numbers.push(number);
     }
@@ -89,9 +82,7 @@ impl Prover {
             }
         }
         match self.nodes[goal] {
-            Node::And(left, right) => {
-                Some(self.prove(context.clone(), left)? && self.prove(context.clone(), right)?)
-            }
+            Node::And(left, right) => Some(self.prove(context.clone(), left)? && self.prove(context.clone(), right)?),
             Node::Implies(left, right) => self.prove(with(context, &[left]), right),
             Node::Or(left, right) => Some(
                 self.prove(context.clone(), left)?

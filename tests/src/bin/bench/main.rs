@@ -20,11 +20,8 @@ fn main() {
     );
     let figures = format!("{:>8} {:>8} {:>8}", "median", "95 %", "worst");
     println!("{:<30} {:>8} {figures} {figures} {figures}", "", "formulas");
-    let sets = [
-        ("random, of the usual size", sets::usual_size(300)),
-        ("ILTP", sets::iltp()),
-        ("patterns", sets::patterns()),
-    ];
+    let sets =
+        [("random, of the usual size", sets::usual_size(300)), ("ILTP", sets::iltp()), ("patterns", sets::patterns())];
     for (name, formulas) in sets {
         let times: Vec<[f64; 3]> = formulas.iter().map(|f| timed(&program, f)).collect();
         let columns: Vec<String> = (0..3).map(|side| column(&times, side)).collect();
@@ -34,11 +31,8 @@ fn main() {
 
 /// The best of some turns for each side; the sides must agree.
 fn timed(program: &str, formula: &[u8]) -> [f64; 3] {
-    let sides: [&dyn Fn() -> Vec<u8>; 3] = [
-        &|| call(Task::Settle, formula),
-        &|| run(program, formula),
-        &|| report(&settle_text(formula)).into_bytes(),
-    ];
+    let sides: [&dyn Fn() -> Vec<u8>; 3] =
+        [&|| call(Task::Settle, formula), &|| run(program, formula), &|| report(&settle_text(formula)).into_bytes()];
     let wanted = report(&settle_text(formula)).into_bytes();
     let mut best = [f64::INFINITY; 3];
     for _ in 0..TURNS {
@@ -58,10 +52,7 @@ fn timed(program: &str, formula: &[u8]) -> [f64; 3] {
 
 /// What the program prints of a formula on its standard input.
 fn run(program: &str, formula: &[u8]) -> Vec<u8> {
-    let started = Command::new(program)
-        .stdin(Stdio::piped())
-        .stdout(Stdio::piped())
-        .spawn();
+    let started = Command::new(program).stdin(Stdio::piped()).stdout(Stdio::piped()).spawn();
     let mut child = started.unwrap_or_else(|error| {
         eprintln!("{program} does not start: {error}");
         exit(2)

@@ -9,13 +9,7 @@ pub fn usual_size(count: usize) -> Vec<Vec<u8>> {
     let mut random = Random::new(300);
     let mut found = Vec::new();
     while found.len() < count {
-        let style = Style {
-            letters: 3 + random.below(4),
-            connectives: b"&|>>=~&|",
-            falsehood: 0,
-            spaces: 0,
-            bare: 0,
-        };
+        let style = Style { letters: 3 + random.below(4), connectives: b"&|>>=~&|", falsehood: 0, spaces: 0, bare: 0 };
         let size = 20 + random.below(21);
         let text = formula(&mut random, &style, size);
         if read(&text).is_ok() {

@@ -1,14 +1,14 @@
 //! Random formulas of all sizes: both implementations, the sequent prover, and forcing in the worlds shown.
 
-use crate::differ::{fail, sheet, text};
+use crate::both::{self, fail};
 use crate::Counts;
+use outside::certificate::write;
 use outside::forcing::{counters, names_agree};
 use outside::proved::{call, Task};
 use outside::random::{formula, Random, Style};
 use outside::report::Settled;
 use outside::search::Verdict;
 use outside::sequent::provable;
-use outside::sheet::write;
 
 const SEQUENTS: usize = 2_000;
 
@@ -21,42 +21,12 @@ struct Group {
 }
 
 const GROUPS: [Group; 6] = [
-    Group {
-        count: 15_000,
-        least: 0,
-        most: 6,
-        connectives: b"&|>=~",
-    },
-    Group {
-        count: 8_000,
-        least: 5,
-        most: 14,
-        connectives: b"&|>>=~",
-    },
-    Group {
-        count: 1_500,
-        least: 12,
-        most: 30,
-        connectives: b"&|>>=~",
-    },
-    Group {
-        count: 500,
-        least: 20,
-        most: 40,
-        connectives: b"&|>>=~&|",
-    },
-    Group {
-        count: 300,
-        least: 30,
-        most: 60,
-        connectives: b"&|>>~",
-    },
-    Group {
-        count: 300,
-        least: 15,
-        most: 58,
-        connectives: b">>>>~",
-    },
+    Group { count: 15_000, least: 0, most: 6, connectives: b"&|>=~" },
+    Group { count: 8_000, least: 5, most: 14, connectives: b"&|>>=~" },
+    Group { count: 1_500, least: 12, most: 30, connectives: b"&|>>=~" },
+    Group { count: 500, least: 20, most: 40, connectives: b"&|>>=~&|" },
+    Group { count: 300, least: 30, most: 60, connectives: b"&|>>~" },
+    Group { count: 300, least: 15, most: 58, connectives: b">>>>~" },
 ];
 
 pub fn compare(random: &mut Random, counts: &mut Counts) {
@@ -71,7 +41,7 @@ pub fn compare(random: &mut Random, counts: &mut Counts) {
             };
             let size = group.least + random.below(group.most - group.least + 1);
             let input = formula(random, &style, size);
-            if let Ok(settled) = text(&input) {
+            if let Ok(settled) = both::settle(&input) {
                 check(&input, &settled, counts);
             }
             counts.formulas += 1;
@@ -79,7 +49,7 @@ pub fn compare(random: &mut Random, counts: &mut Counts) {
     }
 }
 
-/// The verdict beside the sequent prover and the tree of the formula; the sheet must be accepted.
+/// The verdict beside the sequent prover and the tree of the formula; the certificate must be accepted.
 fn check(input: &[u8], settled: &Settled, counts: &mut Counts) {
     let valid = settled.answer.verdict == Verdict::Valid;
     if let Some(provable) = provable(&settled.formula, SEQUENTS) {
@@ -97,9 +67,9 @@ fn check(input: &[u8], settled: &Settled, counts: &mut Counts) {
             fail("countermodel", input, &shown, b"worlds that counter it");
         }
     }
-    let judged = sheet(&write(&settled.problem, &settled.answer));
+    let judged = both::check(&write(&settled.problem, &settled.answer));
     let wanted = ["accepted refuted\n", "accepted valid\n"][usize::from(valid)];
     if judged != wanted {
-        fail("own sheet", input, judged.as_bytes(), wanted.as_bytes());
+        fail("own certificate", input, judged.as_bytes(), wanted.as_bytes());
     }
 }

@@ -1,15 +1,15 @@
 //! The library's one function: tasks it does not have, and outputs that are too short.
 
-use crate::differ::fail;
+use crate::both::fail;
 use outside::proved::{call, call_into, Task};
 
 pub fn compare() {
-    let sheet = call(Task::WriteSheet, b"p>p");
+    let certificate = call(Task::WriteCertificate, b"p>p");
     let inputs: [(Task, &[u8]); 4] = [
         (Task::Settle, b"((p>q)>p)>p"),
         (Task::Settle, b"p q"),
-        (Task::WriteSheet, b"p>p"),
-        (Task::CheckSheet, &sheet),
+        (Task::WriteCertificate, b"p>p"),
+        (Task::CheckCertificate, &certificate),
     ];
     for (task, input) in inputs {
         let wanted = call(task, input);

@@ -1,10 +1,10 @@
 //! Holds the proved library against the second implementation and the sequent prover, on inputs from a fixed seed.
 
-mod differ;
+mod both;
+mod certificates;
 mod formulas;
 mod interface;
 mod known;
-mod sheets;
 mod texts;
 
 use outside::random::Random;
@@ -18,7 +18,7 @@ pub struct Counts {
     sequents: usize,
     countermodels: usize,
     texts: usize,
-    sheets: usize,
+    certificates: usize,
 }
 
 fn main() {
@@ -29,16 +29,16 @@ fn main() {
     known::compare(&mut counts);
     formulas::compare(&mut random, &mut counts);
     texts::compare(&mut random, &mut counts);
-    sheets::compare(&mut random, &mut counts);
+    certificates::compare(&mut random, &mut counts);
     println!(
         "no difference: {} known formulas, {} random formulas ({} by the sequent prover, {} countermodels), \
-         {} texts, {} sheets in {:.1} s",
+         {} texts, {} certificates in {:.1} s",
         counts.known,
         counts.formulas,
         counts.sequents,
         counts.countermodels,
         counts.texts,
-        counts.sheets,
+        counts.certificates,
         start.elapsed().as_secs_f64()
     );
 }

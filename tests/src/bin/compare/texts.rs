@@ -1,6 +1,6 @@
 //! Texts that are no formulas, or at the limits: damaged formulas, random bytes.
 
-use crate::differ::text;
+use crate::both;
 use crate::Counts;
 use outside::random::{formula, Random, Style};
 
@@ -30,7 +30,7 @@ pub fn compare(random: &mut Random, counts: &mut Counts) {
 }
 
 fn settle(input: &[u8], counts: &mut Counts) {
-    let _ = text(input);
+    let _ = both::settle(input);
     counts.texts += 1;
 }
 
@@ -40,13 +40,7 @@ fn drawn(random: &mut Random, from: &[u8], length: usize) -> Vec<u8> {
 
 /// A formula with one to three bytes changed, put in, taken out, or its end cut off.
 fn damaged(random: &mut Random) -> Vec<u8> {
-    let style = Style {
-        letters: 4,
-        connectives: b"&|>=~",
-        falsehood: 8,
-        spaces: 6,
-        bare: 2,
-    };
+    let style = Style { letters: 4, connectives: b"&|>=~", falsehood: 8, spaces: 6, bare: 2 };
     let size = random.below(12);
     let mut input = formula(random, &style, size);
     for _ in 0..1 + random.below(3) {

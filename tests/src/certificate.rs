@@ -1,4 +1,4 @@
-//! The answer sheet: written of an answer, and judged whoever made it.
+//! Certificates (the answer sheets of document 01): written of an answer, and judged whoever made them.
 
 use crate::naming::{single, Flat, Implication, Problem, FALSE};
 use crate::question::{proves, Clauses};
@@ -7,8 +7,8 @@ use crate::search::{learned, realizes, Answer, Step, Verdict};
 
 const CONTENTS: usize = 37;
 
-/// A sheet read: the problem with what is claimed of it.
-struct Sheet {
+/// A certificate read: the problem with what is claimed of it.
+struct Certificate {
     problem: Problem,
     claim: Claim,
 }
@@ -29,22 +29,17 @@ pub fn write(problem: &Problem, answer: &Answer) -> Vec<u8> {
         Verdict::Valid => (4, answer.steps.iter().flat_map(step_bytes).collect()),
         Verdict::Refuted(worlds) => (5, worlds.iter().flat_map(|w| w.to_le_bytes()).collect()),
     };
-    let bodies: [(u8, Vec<u8>); 4] = [
-        (1, clauses),
-        (2, implications.collect()),
-        (3, vec![problem.goal]),
-        (kind, rows),
-    ];
-    let mut sheet = vec![bodies.len() as u8];
+    let bodies: [(u8, Vec<u8>); 4] = [(1, clauses), (2, implications.collect()), (3, vec![problem.goal]), (kind, rows)];
+    let mut certificate = vec![bodies.len() as u8];
     let mut start = CONTENTS;
     for (kind, body) in &bodies {
-        sheet.push(*kind);
-        sheet.extend((start as u32).to_le_bytes());
-        sheet.extend((body.len() as u32).to_le_bytes());
+        certificate.push(*kind);
+        certificate.extend((start as u32).to_le_bytes());
+        certificate.extend((body.len() as u32).to_le_bytes());
         start += body.len();
     }
-    sheet.extend(bodies.into_iter().flat_map(|(_, body)| body));
-    sheet
+    certificate.extend(bodies.into_iter().flat_map(|(_, body)| body));
+    certificate
 }
 
 fn step_bytes(step: &Step) -> Vec<u8> {
@@ -62,16 +57,16 @@ pub fn verdict_line(bytes: &[u8]) -> String {
 }
 
 fn judge(bytes: &[u8]) -> Result<&'static str, Refusal> {
-    let sheet = parse(bytes).ok_or(Refusal::plain(13))?;
-    if !sheet.in_range() {
+    let certificate = parse(bytes).ok_or(Refusal::plain(13))?;
+    if !certificate.in_range() {
         return Err(Refusal::plain(14));
     }
-    if !closed(&sheet.problem) {
+    if !closed(&certificate.problem) {
         return Err(Refusal::plain(15));
     }
-    let (word, wrong) = match &sheet.claim {
-        Claim::Derived(steps) => ("valid", wrong_step(&sheet.problem, steps)),
-        Claim::Countered(worlds) => ("refuted", wrong_world(&sheet.problem, worlds)),
+    let (word, wrong) = match &certificate.claim {
+        Claim::Derived(steps) => ("valid", wrong_step(&certificate.problem, steps)),
+        Claim::Countered(worlds) => ("refuted", wrong_world(&certificate.problem, worlds)),
     };
     match wrong {
         None => Ok(word),
@@ -109,43 +104,28 @@ fn set_at(row: &[u8], at: usize) -> u64 {
     (0..8).fold(0, |set, k| set | u64::from(row[at + k]) << (8 * k))
 }
 
-fn parse(bytes: &[u8]) -> Option<Sheet> {
+fn parse(bytes: &[u8]) -> Option<Certificate> {
     let [(1, clauses), (2, implications), (3, &[goal]), (kind, last)] = bodies(bytes)? else {
         return None;
     };
     let (&atoms, flats) = clauses.split_first()?;
     let problem = Problem {
         atoms,
-        flats: rows(flats, 16, |r| Flat {
-            left: set_at(r, 0),
-            right: set_at(r, 8),
-        })?,
-        implications: rows(implications, 3, |r| Implication {
-            a: r[0],
-            b: r[1],
-            c: r[2],
-        })?,
+        flats: rows(flats, 16, |r| Flat { left: set_at(r, 0), right: set_at(r, 8) })?,
+        implications: rows(implications, 3, |r| Implication { a: r[0], b: r[1], c: r[2] })?,
         goal,
     };
     let claim = match kind {
-        4 => Claim::Derived(rows(last, 9, |r| Step {
-            implication: r[0],
-            assumed: set_at(r, 1),
-        })?),
+        4 => Claim::Derived(rows(last, 9, |r| Step { implication: r[0], assumed: set_at(r, 1) })?),
         5 if !last.is_empty() => Claim::Countered(rows(last, 8, |r| set_at(r, 0))?),
         _ => return None,
     };
-    Some(Sheet { problem, claim })
+    Some(Certificate { problem, claim })
 }
 
-impl Sheet {
+impl Certificate {
     fn in_range(&self) -> bool {
-        let Problem {
-            atoms,
-            ref flats,
-            ref implications,
-            goal,
-        } = self.problem;
+        let Problem { atoms, ref flats, ref implications, goal } = self.problem;
         let set = |set: u64| atoms == 64 || set >> atoms == 0;
         let atom_or_false = |atom: u8| atom < atoms || atom == FALSE;
         let implication = |i: &Implication| i.a < atoms && atom_or_false(i.b) && atom_or_false(i.c);
@@ -158,9 +138,7 @@ impl Sheet {
             && atom_or_false(goal)
             && match &self.claim {
                 Claim::Derived(steps) => steps.len() <= 512 && steps.iter().all(step),
-                Claim::Countered(worlds) => {
-                    worlds.len() <= 256 && worlds.iter().all(|&world| set(world))
-                }
+                Claim::Countered(worlds) => worlds.len() <= 256 && worlds.iter().all(|&world| set(world)),
             }
     }
 }
@@ -203,30 +181,30 @@ mod tests {
     use super::*;
     use crate::report::settle_text;
 
-    fn sheet(text: &str) -> Vec<u8> {
+    fn certificate(text: &str) -> Vec<u8> {
         let settled = settle_text(text.as_bytes()).expect(text);
         write(&settled.problem, &settled.answer)
     }
 
     #[test]
-    fn written_sheets_are_accepted() {
-        assert_eq!(sheet("p>p").len(), 83);
+    fn written_certificates_are_accepted() {
+        assert_eq!(certificate("p>p").len(), 83);
         for text in ["p>p", "0>0", "p>q>p", "(p>q)=(~q>~p)|~~p&p"] {
             let settled = settle_text(text.as_bytes()).expect(text);
             let word = match settled.answer.verdict {
                 Verdict::Valid => "accepted valid\n",
                 Verdict::Refuted(_) => "accepted refuted\n",
             };
-            assert_eq!(verdict_line(&sheet(text)), word, "{text}");
+            assert_eq!(verdict_line(&certificate(text)), word, "{text}");
         }
     }
 
     #[test]
     fn refusals_in_order() {
-        let valid = sheet("p>p");
-        let refuted = sheet("p|~p");
-        let changed = |sheet: &[u8], at: usize, byte: u8| {
-            let mut copy = sheet.to_vec();
+        let valid = certificate("p>p");
+        let refuted = certificate("p|~p");
+        let changed = |certificate: &[u8], at: usize, byte: u8| {
+            let mut copy = certificate.to_vec();
             copy[at] = byte;
             verdict_line(&copy)
         };

@@ -1,9 +1,9 @@
 //! One input through both implementations; a difference ends the program.
 
+use outside::certificate;
 use outside::proved::{call, Task};
 use outside::refusal::Refusal;
 use outside::report::{report, settle_text, Settled};
-use outside::sheet;
 use std::process::exit;
 
 pub fn fail(what: &str, input: &[u8], proved: &[u8], wanted: &[u8]) -> ! {
@@ -20,22 +20,22 @@ fn same(what: &str, input: &[u8], proved: &[u8], wanted: &[u8]) {
     }
 }
 
-/// Compares the report and the sheet of a text, and gives the outcome that both have.
-pub fn text(input: &[u8]) -> Result<Settled, Refusal> {
+/// Compares the report and the certificate of a text, and gives the outcome that both have.
+pub fn settle(input: &[u8]) -> Result<Settled, Refusal> {
     let outcome = settle_text(input);
     let proved = call(Task::Settle, input);
     same("report", input, &proved, report(&outcome).as_bytes());
     let wanted = match &outcome {
-        Ok(settled) => sheet::write(&settled.problem, &settled.answer),
+        Ok(settled) => certificate::write(&settled.problem, &settled.answer),
         Err(_) => Vec::new(),
     };
-    same("sheet", input, &call(Task::WriteSheet, input), &wanted);
+    same("certificate", input, &call(Task::WriteCertificate, input), &wanted);
     outcome
 }
 
-pub fn sheet(input: &[u8]) -> String {
-    let wanted = sheet::verdict_line(input);
-    let proved = call(Task::CheckSheet, input);
+pub fn check(input: &[u8]) -> String {
+    let wanted = certificate::verdict_line(input);
+    let proved = call(Task::CheckCertificate, input);
     same("judgement", input, &proved, wanted.as_bytes());
     wanted
 }

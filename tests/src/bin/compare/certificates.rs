@@ -1,28 +1,19 @@
-//! Damaged sheets: bytes changed, cut off and added, and whole rows changed under right contents.
+//! Damaged certificates: bytes changed, cut off and added, and whole rows changed under right contents.
 
-use crate::differ::{sheet, text};
+use crate::both;
 use crate::Counts;
+use outside::certificate::write;
 use outside::naming::{Flat, Implication, FALSE};
 use outside::proved::{call, Task};
 use outside::random::{formula, Random, Style};
 use outside::report::Settled;
 use outside::search::{Step, Verdict};
-use outside::sheet::write;
 
-const FORMULAS: [&str; 8] = [
-    "p>p",
-    "0",
-    "0>0",
-    "p|~p",
-    "((p>q)>p)>p",
-    "(p>q>r)>(p>q)>p>r",
-    "~~(p|~p)",
-    "(p=q)=q=p",
-];
+const FORMULAS: [&str; 8] = ["p>p", "0", "0>0", "p|~p", "((p>q)>p)>p", "(p>q>r)>(p>q)>p>r", "~~(p|~p)", "(p=q)=q=p"];
 
 pub fn compare(random: &mut Random, counts: &mut Counts) {
     for input in FORMULAS {
-        let original = call(Task::WriteSheet, input.as_bytes());
+        let original = call(Task::WriteCertificate, input.as_bytes());
         each_byte(random, &original, counts);
         lengths(&original, counts);
     }
@@ -49,21 +40,15 @@ pub fn compare(random: &mut Random, counts: &mut Counts) {
 }
 
 fn judge(input: &[u8], counts: &mut Counts) {
-    sheet(input);
-    counts.sheets += 1;
+    both::check(input);
+    counts.certificates += 1;
 }
 
 fn random_settled(random: &mut Random) -> Settled {
     loop {
-        let style = Style {
-            letters: 1 + random.below(4),
-            connectives: b"&|>>=~",
-            falsehood: 9,
-            spaces: 0,
-            bare: 2,
-        };
+        let style = Style { letters: 1 + random.below(4), connectives: b"&|>>=~", falsehood: 9, spaces: 0, bare: 2 };
         let size = random.below(16);
-        if let Ok(settled) = text(&formula(random, &style, size)) {
+        if let Ok(settled) = both::settle(&formula(random, &style, size)) {
             return settled;
         }
     }
@@ -73,15 +58,7 @@ fn each_byte(random: &mut Random, original: &[u8], counts: &mut Counts) {
     for at in 0..original.len() {
         let old = original[at];
         let other = random.draw() as u8;
-        for byte in [
-            old ^ 1,
-            old ^ 2,
-            old ^ 128,
-            old.wrapping_add(1),
-            0,
-            255,
-            other,
-        ] {
+        for byte in [old ^ 1, old ^ 2, old ^ 128, old.wrapping_add(1), 0, 255, other] {
             let mut changed = original.to_vec();
             changed[at] = byte;
             judge(&changed, counts);
@@ -137,20 +114,16 @@ fn rows_changed(random: &mut Random, settled: &Settled) -> Vec<u8> {
             1 => problem.atoms = problem.atoms.wrapping_add(random.below(3) as u8) - 1,
             2 => change_list(random, &mut problem.flats, |f, n| f.left ^= bit(n)),
             3 => change_list(random, &mut problem.flats, |f, n| f.right ^= bit(n)),
-            4 => change_list(random, &mut problem.implications, |i, n| {
-                match n >> 32 & 3 {
-                    0 => i.a = n as u8 % settled.problem.atoms,
-                    1 => i.b = atom(n),
-                    _ => i.c = atom(n),
-                }
+            4 => change_list(random, &mut problem.implications, |i, n| match n >> 32 & 3 {
+                0 => i.a = n as u8 % settled.problem.atoms,
+                1 => i.b = atom(n),
+                _ => i.c = atom(n),
             }),
             _ => match &mut answer.verdict {
-                Verdict::Valid => {
-                    change_list(random, &mut answer.steps, |s, n| match n >> 32 & 3 {
-                        0 => s.implication = n as u8 % 8,
-                        _ => s.assumed ^= bit(n),
-                    })
-                }
+                Verdict::Valid => change_list(random, &mut answer.steps, |s, n| match n >> 32 & 3 {
+                    0 => s.implication = n as u8 % 8,
+                    _ => s.assumed ^= bit(n),
+                }),
                 Verdict::Refuted(worlds) => change_list(random, worlds, |w, n| *w ^= bit(n)),
             },
         }
@@ -161,22 +134,13 @@ fn rows_changed(random: &mut Random, settled: &Settled) -> Vec<u8> {
 /// Each table at its limit and one row over.
 fn full_tables(counts: &mut Counts) {
     let flat = Flat { left: 1, right: 1 };
-    let implication = Implication {
-        a: 0,
-        b: FALSE,
-        c: FALSE,
-    };
-    let step = Step {
-        implication: 0,
-        assumed: 1,
-    };
+    let implication = Implication { a: 0, b: FALSE, c: FALSE };
+    let step = Step { implication: 0, assumed: 1 };
     for over in 0..2 {
-        let valid = text(b"p>p").expect("p>p");
-        let refuted = text(b"p").expect("p");
+        let valid = both::settle(b"p>p").expect("p>p");
+        let refuted = both::settle(b"p").expect("p");
         for settled in [valid, refuted] {
-            let Settled {
-                problem, answer, ..
-            } = settled;
+            let Settled { problem, answer, .. } = settled;
             let mut wide = problem.clone();
             wide.flats.resize(512 + over, flat);
             judge(&write(&wide, &answer), counts);
