@@ -96,8 +96,8 @@ fn bodies(bytes: &[u8]) -> Option<[(u8, &[u8]); 4]> {
 
 /// Rows of one length, or nothing if they do not come out even.
 fn rows<T>(body: &[u8], length: usize, row: impl Fn(&[u8]) -> T) -> Option<Vec<T>> {
-    let even = body.len().is_multiple_of(length);
-    even.then(|| body.chunks(length).map(row).collect())
+    let chunks = body.chunks_exact(length);
+    chunks.remainder().is_empty().then(|| chunks.map(row).collect())
 }
 
 fn set_at(row: &[u8], at: usize) -> u64 {

@@ -58,7 +58,7 @@ fn run(program: &str, formula: &[u8]) -> Vec<u8> {
         exit(2)
     });
     let mut input = child.stdin.take().expect("its standard input");
-    input.write_all(formula).expect("a formula taken");
+    input.write_all(&[formula, b"\n"].concat()).expect("a formula taken");
     drop(input);
     child.wait_with_output().expect("its end").stdout
 }

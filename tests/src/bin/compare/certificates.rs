@@ -131,12 +131,12 @@ fn rows_changed(random: &mut Random, settled: &Settled) -> Vec<u8> {
     write(&problem, &answer)
 }
 
-/// Each table at its limit and one row over.
+/// Each table at its limit, one row over and far over.
 fn full_tables(counts: &mut Counts) {
     let flat = Flat { left: 1, right: 1 };
     let implication = Implication { a: 0, b: FALSE, c: FALSE };
     let step = Step { implication: 0, assumed: 1 };
-    for over in 0..2 {
+    for over in [0, 1, 5_000] {
         let valid = both::settle(b"p>p").expect("p>p");
         let refuted = both::settle(b"p").expect("p");
         for settled in [valid, refuted] {
