@@ -43,3 +43,23 @@ pub fn names_agree(formula: &[Part], worlds: &[u64]) -> bool {
     };
     forced(formula, worlds).iter().zip(&atoms).all(agrees)
 }
+
+#[cfg(test)]
+mod tests {
+    use super::*;
+    use crate::reader::read;
+
+    #[test]
+    fn worlds_that_counter() {
+        let excluded_middle = read(b"p|~p").expect("a formula");
+        assert!(counters(&excluded_middle, &[0, 5]));
+        assert!(names_agree(&excluded_middle, &[0, 5]));
+        assert!(!counters(&excluded_middle, &[0]));
+        assert!(!counters(&excluded_middle, &[5, 0]));
+        assert!(!names_agree(&excluded_middle, &[0, 1]));
+        let peirce = read(b"((p>q)>p)>p").expect("a formula");
+        assert!(counters(&peirce, &[0, 1]));
+        assert!(!counters(&peirce, &[0]));
+        assert!(names_agree(&peirce, &[0, 25, 20, 8]));
+    }
+}

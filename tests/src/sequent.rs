@@ -157,3 +157,25 @@ fn without(context: &Context, formula: usize) -> Context {
     smaller.remove(&formula);
     smaller
 }
+
+#[cfg(test)]
+mod tests {
+    use super::*;
+    use crate::random::{formula, Random, Style};
+    use crate::report::settle_text;
+    use crate::search::Verdict;
+
+    #[test]
+    fn agrees_with_the_fixed_search() {
+        let mut random = Random::new(7);
+        for _ in 0..5_000 {
+            let letters = 1 + random.below(4);
+            let style = Style { letters, connectives: b"&|>>=~", falsehood: 8, spaces: 0, bare: 2 };
+            let size = random.below(13);
+            let text = formula(&mut random, &style, size);
+            let settled = settle_text(&text).expect("a verdict");
+            let valid = settled.answer.verdict == Verdict::Valid;
+            assert_eq!(provable(&settled.formula, 20_000), Some(valid), "{}", text.escape_ascii());
+        }
+    }
+}
