@@ -20,13 +20,19 @@ pub fn usual_size(count: usize) -> Vec<Vec<u8>> {
 }
 
 pub fn iltp() -> Vec<Vec<u8>> {
-    let instances = entries().filter(|entry| entry.name.starts_with("SYJ"));
-    instances.map(|entry| entry.text.into()).collect()
+    named("SYJ")
 }
 
-/// Many equal parts beside a small problem, which lead a search without backjumping into all their combinations.
+/// The formulas of the corpus whose names begin so.
+fn named(beginning: &str) -> Vec<Vec<u8>> {
+    let chosen = entries().filter(|entry| entry.name.starts_with(beginning));
+    chosen.map(|entry| entry.text.into()).collect()
+}
+
+/// Many equal parts beside a small problem, which lead a search without backjumping into all their combinations; and
+/// formulas that need as many worlds as there may be.
 pub fn patterns() -> Vec<Vec<u8>> {
-    let mut found = Vec::new();
+    let mut found = named("up to");
     for copies in 5..14 {
         for (part, between, times) in [
             ("(t=u)", "|", copies),

@@ -14,6 +14,14 @@ pub fn fail(what: &str, input: &[u8], proved: &[u8], wanted: &[u8]) -> ! {
     exit(1)
 }
 
+pub fn word(valid: bool) -> &'static str {
+    if valid {
+        "valid"
+    } else {
+        "refuted"
+    }
+}
+
 fn same(what: &str, input: &[u8], proved: &[u8], wanted: &[u8]) {
     if proved != wanted {
         fail(what, input, proved, wanted);

@@ -111,7 +111,7 @@ fn rows_changed(random: &mut Random, settled: &Settled) -> Vec<u8> {
     for _ in 0..1 + random.below(3) {
         match random.below(8) {
             0 => problem.goal = atom(random.draw()),
-            1 => problem.atoms = problem.atoms.wrapping_add(random.below(3) as u8) - 1,
+            1 => problem.atoms = problem.atoms.wrapping_add(random.below(3) as u8).wrapping_sub(1),
             2 => change_list(random, &mut problem.flats, |f, n| f.left ^= bit(n)),
             3 => change_list(random, &mut problem.flats, |f, n| f.right ^= bit(n)),
             4 => change_list(random, &mut problem.implications, |i, n| match n >> 32 & 3 {

@@ -1,6 +1,6 @@
 //! Random formulas of all sizes: both implementations, the sequent prover, and forcing in the worlds shown.
 
-use crate::both::{self, fail};
+use crate::both::{self, fail, word};
 use crate::Counts;
 use outside::certificate::write;
 use outside::forcing::{counters, names_agree};
@@ -55,7 +55,6 @@ fn check(input: &[u8], settled: &Settled, counts: &mut Counts) {
     if let Some(provable) = provable(&settled.formula, SEQUENTS) {
         counts.sequents += 1;
         if provable != valid {
-            let word = |valid: bool| if valid { "valid" } else { "refuted" };
             let (found, wanted) = (word(valid), word(provable));
             fail("verdict", input, found.as_bytes(), wanted.as_bytes());
         }
@@ -68,7 +67,7 @@ fn check(input: &[u8], settled: &Settled, counts: &mut Counts) {
         }
     }
     let judged = both::check(&write(&settled.problem, &settled.answer));
-    let wanted = ["accepted refuted\n", "accepted valid\n"][usize::from(valid)];
+    let wanted = format!("accepted {}\n", word(valid));
     if judged != wanted {
         fail("own certificate", input, judged.as_bytes(), wanted.as_bytes());
     }

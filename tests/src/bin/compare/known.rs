@@ -1,6 +1,6 @@
 //! The formulas of `formulas.txt`, whose verdicts are known.
 
-use crate::both::{self, fail};
+use crate::both::{self, fail, word};
 use crate::Counts;
 use outside::corpus::entries;
 use outside::search::Verdict;
@@ -16,7 +16,6 @@ pub fn compare(counts: &mut Counts) {
             }
         };
         if valid != entry.valid {
-            let word = |valid: bool| if valid { "valid" } else { "refuted" };
             let (found, wanted) = (word(valid), word(entry.valid));
             fail(entry.name, entry.text.as_bytes(), found.as_bytes(), wanted.as_bytes());
         }
