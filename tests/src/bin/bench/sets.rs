@@ -30,7 +30,7 @@ fn named(beginning: &str) -> Vec<Vec<u8>> {
 }
 
 /// Many equal parts beside a small problem, which lead a search without backjumping into all their combinations; and
-/// formulas that need as many worlds as there may be.
+/// formulas that need many worlds or steps.
 pub fn patterns() -> Vec<Vec<u8>> {
     let mut found = named("up to");
     for copies in 5..14 {
