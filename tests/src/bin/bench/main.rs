@@ -1,0 +1,71 @@
+//! Times the proved library, the whole program `settle` and the second implementation side by side, formula by formula,
+//! and prints one table in milliseconds. The path of the program may be given as an argument.
+
+mod sets;
+
+use outside::proved::{call, Task};
+use outside::report::{report, settle_text};
+use std::io::Write;
+use std::process::{exit, Command, Stdio};
+use std::time::Instant;
+
+const TURNS: usize = 3;
+const PROGRAM: &str = concat!(env!("CARGO_MANIFEST_DIR"), "/../target/bin/settle");
+
+fn main() {
+    let program = std::env::args().nth(1).unwrap_or(PROGRAM.to_string());
+    println!(
+        "{:<30} {:>8} {:^26} {:^26} {:^26}",
+        "milliseconds a formula", "", "proved library", "program", "second implementation"
+    );
+    let figures = format!("{:>8} {:>8} {:>8}", "median", "95 %", "worst");
+    println!("{:<30} {:>8} {figures} {figures} {figures}", "", "formulas");
+    let sets =
+        [("random, of the usual size", sets::usual_size(300)), ("ILTP", sets::iltp()), ("patterns", sets::patterns())];
+    for (name, formulas) in sets {
+        let times: Vec<[f64; 3]> = formulas.iter().map(|f| timed(&program, f)).collect();
+        let columns: Vec<String> = (0..3).map(|side| column(&times, side)).collect();
+        println!("{name:<30} {:>8} {}", formulas.len(), columns.join(" "));
+    }
+}
+
+/// The best of some turns for each side; the sides must agree.
+fn timed(program: &str, formula: &[u8]) -> [f64; 3] {
+    let sides: [&dyn Fn() -> Vec<u8>; 3] =
+        [&|| call(Task::Settle, formula), &|| run(program, formula), &|| report(&settle_text(formula)).into_bytes()];
+    let wanted = report(&settle_text(formula)).into_bytes();
+    let mut best = [f64::INFINITY; 3];
+    for _ in 0..TURNS {
+        for (side, answer) in sides.iter().enumerate() {
+            let start = Instant::now();
+            let printed = answer();
+            let milliseconds = start.elapsed().as_secs_f64() * 1e3;
+            best[side] = best[side].min(milliseconds);
+            if printed != wanted {
+                eprintln!("answers differ: {}", formula.escape_ascii());
+                exit(1);
+            }
+        }
+    }
+    best
+}
+
+/// What the program prints of a formula on its standard input.
+fn run(program: &str, formula: &[u8]) -> Vec<u8> {
+    let started = Command::new(program).stdin(Stdio::piped()).stdout(Stdio::piped()).spawn();
+    let mut child = started.unwrap_or_else(|error| {
+        eprintln!("{program} does not start: {error}");
+        exit(2)
+    });
+    let mut input = child.stdin.take().expect("its standard input");
+    input.write_all(&[formula, b"\n"].concat()).expect("a formula taken");
+    drop(input);
+    child.wait_with_output().expect("its end").stdout
+}
+
+fn column(times: &[[f64; 3]], side: usize) -> String {
+    let mut sorted: Vec<f64> = times.iter().map(|t| t[side]).collect();
+    sorted.sort_by(f64::total_cmp);
+    let at = |percent: usize| sorted[(sorted.len() - 1) * percent / 100];
+    format!("{:>8.3} {:>8.3} {:>8.3}", at(50), at(95), at(100))
+}

@@ -1,0 +1,15 @@
+//! Document 01 implemented a second time, apart from the proved code, to hold the proved code against.
+
+pub mod certificate;
+pub mod corpus;
+pub mod forcing;
+pub mod formula;
+pub mod naming;
+pub mod proved;
+pub mod question;
+pub mod random;
+pub mod reader;
+pub mod refusal;
+pub mod report;
+pub mod search;
+pub mod sequent;

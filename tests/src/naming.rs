@@ -1,0 +1,143 @@
+//! A formula to a clausal sequent: an atom for each letter, a name for each connective, and the clauses of each name.
+
+use crate::formula::{letters, Connective, Part};
+
+/// False, where a number of an atom may stand for it.
+pub const FALSE: u8 = 255;
+
+#[derive(Clone, Copy, Debug, PartialEq, Eq)]
+pub struct Flat {
+    pub left: u64,
+    pub right: u64,
+}
+
+/// (a → b) → c.
+#[derive(Clone, Copy, Debug, PartialEq, Eq)]
+pub struct Implication {
+    pub a: u8,
+    pub b: u8,
+    pub c: u8,
+}
+
+impl Implication {
+    pub fn closing(&self) -> Option<Flat> {
+        (self.b != FALSE).then(|| Flat { left: single(self.b), right: single(self.c) })
+    }
+}
+
+#[derive(Clone, Debug, PartialEq, Eq)]
+pub struct Problem {
+    pub atoms: u8,
+    pub flats: Vec<Flat>,
+    pub implications: Vec<Implication>,
+    pub goal: u8,
+}
+
+/// The set of one atom; nothing is in the set of false.
+pub fn single(atom: u8) -> u64 {
+    if atom == FALSE {
+        0
+    } else {
+        1 << atom
+    }
+}
+
+pub fn problem_of(formula: &[Part]) -> Problem {
+    let atoms = atoms_of(formula);
+    let mut problem = Problem { atoms: 0, flats: Vec::new(), implications: Vec::new(), goal: atoms[atoms.len() - 1] };
+    for (part, &x) in formula.iter().zip(&atoms) {
+        if let Part::Join(connective, left, right) = *part {
+            problem.join(connective, x, atoms[left], atoms[right]);
+        }
+    }
+    let last = atoms.iter().filter(|&&atom| atom != FALSE).max();
+    problem.atoms = last.map_or(1, |atom| atom + 1);
+    problem
+}
+
+/// The atom of each part, false for ⊥. An equivalence has the names of its two implications just below its own.
+pub fn atoms_of(formula: &[Part]) -> Vec<u8> {
+    let letters = letters(formula);
+    let mut next = letters.len() as u8;
+    let mut name = |count: u8| {
+        next += count;
+        next - 1
+    };
+    let atom = |part: &Part| match part {
+        Part::False => FALSE,
+        Part::Letter(letter) => letters.iter().position(|l| l == letter).expect("a letter listed") as u8,
+        Part::Join(Connective::Equal, ..) => name(3),
+        Part::Join(..) => name(1),
+    };
+    formula.iter().map(atom).collect()
+}
+
+impl Problem {
+    fn join(&mut self, connective: Connective, x: u8, y: u8, z: u8) {
+        match connective {
+            Connective::And => {
+                self.flat(&[x], &[y]);
+                self.flat(&[x], &[z]);
+                self.flat(&[y, z], &[x]);
+            }
+            Connective::Or => {
+                self.flat(&[x], &[y, z]);
+                self.flat(&[y], &[x]);
+                self.flat(&[z], &[x]);
+            }
+            Connective::Implies => self.implies(x, y, z),
+            Connective::Equal => {
+                self.implies(x - 2, y, z);
+                self.implies(x - 1, z, y);
+                self.join(Connective::And, x, x - 2, x - 1);
+            }
+        }
+    }
+
+    fn implies(&mut self, x: u8, y: u8, z: u8) {
+        if y == FALSE {
+            return self.flat(&[], &[x]);
+        }
+        self.flat(&[x, y], &[z]);
+        self.implications.push(Implication { a: y, b: z, c: x });
+        self.flat(&[z], &[x]);
+    }
+
+    /// Holds a flat clause, unless false is on its left.
+    fn flat(&mut self, left: &[u8], right: &[u8]) {
+        let set = |atoms: &[u8]| atoms.iter().fold(0, |all, &atom| all | single(atom));
+        if !left.contains(&FALSE) {
+            self.flats.push(Flat { left: set(left), right: set(right) });
+        }
+    }
+}
+
+#[cfg(test)]
+mod tests {
+    use super::*;
+    use crate::reader::read;
+
+    fn problem(text: &str) -> Problem {
+        problem_of(&read(text.as_bytes()).expect(text))
+    }
+
+    #[test]
+    fn names_of_an_equivalence() {
+        let p = problem("~p=q&p");
+        assert_eq!((p.atoms, p.goal), (7, 6));
+        let rows: Vec<(u8, u8, u8)> = p.implications.iter().map(|i| (i.a, i.b, i.c)).collect();
+        assert_eq!(rows, [(0, FALSE, 2), (2, 3, 4), (3, 2, 5)]);
+    }
+
+    #[test]
+    fn false_in_clauses() {
+        let p = problem("0&p");
+        let rows: Vec<(u64, u64)> = p.flats.iter().map(|f| (f.left, f.right)).collect();
+        assert_eq!(rows, [(2, 0), (2, 1)]);
+        let p = problem("0>p");
+        let rows: Vec<(u64, u64)> = p.flats.iter().map(|f| (f.left, f.right)).collect();
+        assert_eq!(rows, [(0, 2)]);
+        assert!(p.implications.is_empty());
+        assert_eq!((problem("0").atoms, problem("0").goal), (1, FALSE));
+    }
+}

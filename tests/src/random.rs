@@ -1,0 +1,80 @@
+//! Random formulas and bytes from a fixed seed.
+
+pub struct Random(u64);
+
+impl Random {
+    pub fn new(seed: u64) -> Random {
+        Random(seed)
+    }
+
+    /// Splitmix: a counter, mixed.
+    pub fn draw(&mut self) -> u64 {
+        self.0 = self.0.wrapping_add(0x9e37_79b9_7f4a_7c15);
+        let mut z = self.0;
+        z = (z ^ z >> 30).wrapping_mul(0xbf58_476d_1ce4_e5b9);
+        z = (z ^ z >> 27).wrapping_mul(0x94d0_49bb_1331_11eb);
+        z ^ z >> 31
+    }
+
+    pub fn below(&mut self, bound: usize) -> usize {
+        (self.draw() % bound as u64) as usize
+    }
+
+    pub fn one_in(&mut self, bound: usize) -> bool {
+        self.below(bound) == 0
+    }
+
+    pub fn pick<'a, T>(&mut self, choices: &'a [T]) -> &'a T {
+        &choices[self.below(choices.len())]
+    }
+}
+
+/// What random formulas are made of: each connective as often as it stands in `connectives`.
+pub struct Style {
+    pub letters: usize,
+    pub connectives: &'static [u8],
+    /// One operand in so many is `0`; none if 0.
+    pub falsehood: usize,
+    /// One place in so many has a space; none if 0.
+    pub spaces: usize,
+    /// One inner formula in so many goes without parentheses; none if 0.
+    pub bare: usize,
+}
+
+/// Text of a formula with so many connectives, as `~`, `&`, `|`, `>` or `=`.
+pub fn formula(random: &mut Random, style: &Style, connectives: usize) -> Vec<u8> {
+    let mut text = Vec::new();
+    write(random, style, connectives, &mut text);
+    text
+}
+
+fn write(random: &mut Random, style: &Style, connectives: usize, text: &mut Vec<u8>) {
+    if style.spaces > 0 && random.one_in(style.spaces) {
+        text.push(b' ');
+    }
+    if connectives == 0 {
+        let is_false = style.falsehood > 0 && random.one_in(style.falsehood);
+        let letter = b'p' + random.below(style.letters) as u8;
+        text.push(if is_false { b'0' } else { letter });
+        return;
+    }
+    let connective = *random.pick(style.connectives);
+    if connective == b'~' {
+        text.push(b'~');
+        return inner(random, style, connectives - 1, text);
+    }
+    let left = random.below(connectives);
+    inner(random, style, left, text);
+    text.push(connective);
+    inner(random, style, connectives - 1 - left, text);
+}
+
+fn inner(random: &mut Random, style: &Style, connectives: usize, text: &mut Vec<u8>) {
+    let bare = connectives == 0 || style.bare > 0 && random.one_in(style.bare);
+    if bare {
+        return write(random, style, connectives, text);
+    }
+    text.push(b'(');
+    write(random, style, connectives, text);
+    text.push(b')');
+}
