@@ -75,13 +75,13 @@ module _ (s : Session) (h : WellFormed (book s)) where
     well-formed-in-range v =
         of-parts s (record { count = count-in-range; flats = flats-in-range; implications = implications-in-range; steps = steps-in-range; worlds = worlds-in-range; held = v })
 
-nothing-in-range : (total : ℕ) (s : Session) → Reached (book s) → NothingHeld total s → inRange s ≡ true
+pub nothing-in-range : (total : ℕ) (s : Session) → Reached (book s) → NothingHeld total s → inRange s ≡ true
 unfolding heldInRange
 nothing-in-range total s r h =
     well-formed-in-range s (r .well-formed) [] (h .no-worlds) (omega arith) tt (subst (λ (v : Held). T (heldInRange (s .n) v)) (sym (h .no-verdict)) tt)
 
 -- What a call leaves: the book that it makes of the session's, and a session in range.
-abbrev Kept : Session → Call → Session → Type 0
+abbrev pub Kept : Session → Call → Session → Type 0
 Kept s c next-session = (book next-session ≡ next (book s) c) × (inRange next-session ≡ true)
 
 module _ (s : Session) (in-range : inRange s ≡ true) (r : Reached (book s)) where
@@ -154,7 +154,7 @@ module _ (s : Session) (in-range : inRange s ≡ true) (r : Reached (book s)) wh
     )
     kept unfinished e h a = absurd a
 
-    asked-as : AskedAs s g (outcome s g) x → AskedAs s g (answer (book s) g) x
+    pub asked-as : AskedAs s g (outcome s g) x → AskedAs s g (answer (book s) g) x
     asked-as a = subst (λ (b : Bool). AskedAs s g (cond b (answer (book s) g) (refused 5)) x) in-range a
 
   -- ---- each call
@@ -164,7 +164,7 @@ module _ (s : Session) (in-range : inRange s ≡ true) (r : Reached (book s)) wh
   call-answer (addImplication a b c) x m = added-answer (callOf (addImplication a b c)) x m
   call-answer (question g) x m = verdict-is g x (answer (book s) g) (asked-as g x m)
 
-  call-kept : (c : Made) (x : Returned c) → Meets s c x → Kept s (callOf c) (sessionOf c x)
+  pub call-kept : (c : Made) (x : Returned c) → Meets s c x → Kept s (callOf c) (sessionOf c x)
   unfolding refusal
   call-kept (addFlat left right) x m = added-kept (callOf (addFlat left right)) x m
   call-kept (addImplication a b c) x m = added-kept (callOf (addImplication a b c)) x m
