@@ -3,10 +3,11 @@ use mathlib.Core.List.{List, [], _∷_, _++_, append-nil, append-assoc}
 use mathlib.Core.Path.{_≡_, refl, sym, ap, ap₂, _∙_, subst}
 use Prim.Native.Nat.{ℕ, zero, suc, _+_, _-_, _*_, _/_, _%_, _^_, _≤_, _<_}
 use native.Mathlib.Nat.{pow-suc, pow-succ', pow-le-pow-right, div-one, div-div-eq-div-mul}
+use native.Mathlib.Decide.{decLe}
 use native.Mathlib.Numerals.{add-one}
 use native.Mathlib.Omega.{arith}
 use lib.ListN.{length, take, drop, getD, set, length-append, length-take, length-drop, take-append-drop, drop-of-length-le, List·getD-eq-default}
-use lib.Seq.{getD-take, getD-drop, drop-cons, set-at, append-snoc}
+use lib.Seq.{getD-take, getD-drop, drop-cons, set-at, append-snoc, take-at, drop-at, drop-drop}
 use lib.Pow.{pow-mono}
 use Rattle.atoms.specs.Sets.{limit}
 use borrow.Author.Tests.{le-leb, lt-leb}
@@ -117,11 +118,63 @@ written-length before at x i h =
       length-drop (at + i) before,
     )
 
--- What is put at a place, and what does not fit.
+-- ---- bytes put at a place
+
+pub put-there : (b : List ℕ) (at : ℕ) (q : List ℕ) → at + length q ≤ length b → putAt b at q ≡ take at b ++ q ++ drop (at + length q) b
+unfolding putAt
+put-there b at q h = rw (le-leb (at + length q) (length b) h) refl
+
+pub put-past : (b : List ℕ) (at : ℕ) (q : List ℕ) → length b < at + length q → b ≡ putAt b at q
+unfolding putAt
+put-past b at q h = rw (lt-leb (at + length q) (length b) h) refl
+
+pub length-put : (b : List ℕ) (at : ℕ) (q : List ℕ) → length (putAt b at q) ≡ length b
+length-put b at q = elim (decLe (at + length q) (length b)) [
+  | yes h ↦ ap length (put-there b at q h)
+      ∙ omega (arith, length-append (take at b ++ q) (drop (at + length q) b), length-append (take at b) q, length-take at b, length-drop (at + length q) b)
+  | no h ↦ ap length (sym (put-past b at q (omega arith)))
+]
+
+-- Bytes put right after others.
+pub put-put : (b : List ℕ) (at : ℕ) (p q : List ℕ) → at + length p + length q ≤ length b → putAt (putAt b at p) (at + length p) q ≡ putAt b at (p ++ q)
+put-put b at p q h =
+    let front : length (take at b ++ p) ≡ at + length p = omega (arith, length-append (take at b) p, length-take at b) in
+    let first : putAt b at p ≡ take at b ++ p ++ drop (at + length p) b = put-there b at p (omega arith) in
+    put-there (putAt b at p) (at + length p) q (omega (arith, length-put b at p))
+    ∙ ap (λ (l : List ℕ). take (at + length p) l ++ q ++ drop (at + length p + length q) l) first
+    ∙ ap₂ (λ (l m : List ℕ). l ++ q ++ m) (take-at (take at b ++ p) (drop (at + length p) b) (at + length p) front)
+    (sym (drop-drop (length q) (at + length p) (take at b ++ p ++ drop (at + length p) b)) ∙ ap (drop (length q)) (drop-at (take at b ++ p) (drop (at + length p) b) (at + length p) front)
+    ∙ drop-drop (length q) (at + length p) b)
+    ∙ ap₂ (λ (l m : List ℕ). l ++ m) (append-assoc (take at b) p q)
+    (ap (λ (n : ℕ). drop n b) {x = at + length p + length q} {y = at + length (p ++ q)} (omega (arith, length-append p q)))
+    ∙ sym (put-there b at (p ++ q) (omega (arith, length-append p q)))
+
+-- What was put at the start is there.
+pub take-put : (b q : List ℕ) → length q ≤ length b → take (length q) (putAt b 0 q) ≡ q
+take-put b q h = ap (take (length q)) (put-there b 0 q (omega arith)) ∙ take-at q (drop (0 + length q) b) (length q) refl
+
+-- What lies past it stays.
+pub drop-put : (b q : List ℕ) → length q ≤ length b → drop (length q) (putAt b 0 q) ≡ drop (length q) b
+drop-put b q h =
+    ap (drop (length q)) (put-there b 0 q (omega arith)) ∙ drop-at q (drop (0 + length q) b) (length q) refl
+    ∙ ap (λ (n : ℕ). drop n b) {x = 0 + length q} {y = length q} (omega arith)
+
+-- Bytes put right after others, where the second place is known by another name.
+pub put-next : (b b1 b2 : List ℕ) (at place : ℕ) (p q : List ℕ) → at + length p ≡ place → place + length q ≤ length b
+    → b1 ≡ putAt b at p → b2 ≡ putAt b1 place q → b2 ≡ putAt b at (p ++ q)
+put-next b b1 b2 at place p q e h first second =
+    second ∙ ap₂ (λ (l : List ℕ) (n : ℕ). putAt l n q) first (sym e) ∙ put-put b at p q (omega arith)
+
+pub put-nothing : (b : List ℕ) (at : ℕ) → b ≡ putAt b at []
+put-nothing b at = elim (decLe at (length b)) [
+  | yes h ↦ sym (put-there b at [] (omega arith) ∙ ap₂ (λ (l : List ℕ) (n : ℕ). l ++ drop n b) {x = take at b ++ []} {y = take at b} {u = at + 0} {v = at} (append-nil (take at b)) (omega arith) ∙ take-append-drop at b)
+  | no h ↦ put-past b at [] (omega arith)
+]
+
+-- A number put, where it fits and where it does not.
 pub put-fits : (before : List ℕ) (at width x : ℕ) → at + width ≤ length before → written before at x width ≡ putAt before at (digits width x)
 unfolding putAt
 put-fits before at width x h = rw (length-digits width x, le-leb (at + width) (length before) h) refl
 
 pub put-short : (before : List ℕ) (at width x : ℕ) → length before < at + width → before ≡ putAt before at (digits width x)
-unfolding putAt
-put-short before at width x h = rw (length-digits width x, lt-leb (at + width) (length before) h) refl
+put-short before at width x h = put-past before at (digits width x) (omega (arith, length-digits width x))

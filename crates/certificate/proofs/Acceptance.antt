@@ -181,11 +181,11 @@ pub length-bound : (p : Problem) (c : Claim) → Right p c → (length (encode p
 unfolding bound encodedLength refutes rowCount
 length-bound p (valid S) r =
     let few = steps-ranged (p .n) (length (p .implications)) S (range-parts p (valid S) (r .range) .claim) .1 in
-    let e = encode-length p (valid S) (right-addressed p (valid S) r) in
+    let e = encode-length p (valid S) in
     (e, omega (arith, e))
 length-bound p (refuted W) r =
     let few = worlds-ranged (p .n) (length (p .implications)) W (range-parts p (refuted W) (r .range) .claim) .1 in
-    let e = encode-length p (refuted W) (right-addressed p (refuted W) r) in
+    let e = encode-length p (refuted W) in
     (e, omega (arith, e))
 
 -- The length that the code tells.

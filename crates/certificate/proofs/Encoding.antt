@@ -24,19 +24,19 @@ use Rattle.certificate.proofs.Entries.{entry-true, claim-true, laid-tru
 
 -- ---- lengths
 
-length-flat : (f : Flat) → length (flatRow f) ≡ 16
+pub length-flat : (f : Flat) → length (flatRow f) ≡ 16
 unfolding flatRow
 length-flat f = omega (arith, length-append (digits 8 (f .left)) (digits 8 (f .right)), length-digits 8 (f .left), length-digits 8 (f .right))
 
-length-implication : (i : Implication) → length (implicationRow i) ≡ 3
+pub length-implication : (i : Implication) → length (implicationRow i) ≡ 3
 unfolding implicationRow
 length-implication i = refl
 
-length-step : (s : Step) → length (stepRow s) ≡ 9
+pub length-step : (s : Step) → length (stepRow s) ≡ 9
 unfolding stepRow
 length-step s = ap suc (length-digits 8 (s .assumed))
 
-length-world : (w : ℕ) → length (worldRow w) ≡ 8
+pub length-world : (w : ℕ) → length (worldRow w) ≡ 8
 unfolding worldRow
 length-world w = length-digits 8 w
 
@@ -192,12 +192,12 @@ abbrev pub ClaimFits : Claim → Type 0
 ClaimFits (valid S) = All (λ z. z .assumed < 256 ^ 8) S
 ClaimFits (refuted W) = All (λ w. w < 256 ^ 8) W
 
-length-claim : (c : Claim) → length (claimRows c) ≡ claimWidth (refutes c) * rowCount c
+pub length-claim : (c : Claim) → length (claimRows c) ≡ claimWidth (refutes c) * rowCount c
 unfolding claimRows refutes rowCount
 length-claim (valid S) = length-each stepRow 9 length-step S
 length-claim (refuted W) = length-each worldRow 8 length-world W
 
-module _ (p : Problem) (c : Claim) (addressed : Addressed p c) where
+module _ (p : Problem) (c : Claim) where
   abbrev F : ℕ
   F = length (p .flats)
 
@@ -226,72 +226,73 @@ module _ (p : Problem) (c : Claim) (addressed : Addressed p c) where
         length-claim c,
       )
 
-  -- What is written keeps the layout.
-  pub encode-laid : laidOut (encode p c) ≡ true
-  unfolding encode
-  encode-laid = contents-laid F X (refutes c) (rowCount c) (addressed .starts) (addressed .size) (bodies p c) bodies-length (addressed .some)
-
-  -- Where each body starts.
-  from-bodies : drop 37 (encode p c) ≡ p .n ∷ (each flatRow (p .flats) ++ (each implicationRow (p .implications) ++ (p .goal ∷ claimRows c)))
-  unfolding encode
-  from-bodies = body-is F X (refutes c) (rowCount c) (addressed .starts) (addressed .size) (bodies p c) ∙ bodies-are
-
-  from-flats : drop 38 (encode p c) ≡ each flatRow (p .flats) ++ (each implicationRow (p .implications) ++ (p .goal ∷ claimRows c))
-  from-flats = advance (encode p c) 37 1 (p .n ∷ []) (each flatRow (p .flats) ++ (each implicationRow (p .implications) ++ (p .goal ∷ claimRows c))) from-bodies refl
-
-  from-implications : drop (implicationStart F) (encode p c) ≡ each implicationRow (p .implications) ++ (p .goal ∷ claimRows c)
-  from-implications = advance (encode p c) 38 (16 * F) (each flatRow (p .flats)) (each implicationRow (p .implications) ++ (p .goal ∷ claimRows c)) from-flats flats-bytes
-
-  from-goal : drop (goalStart F X) (encode p c) ≡ p .goal ∷ claimRows c
-  from-goal = advance (encode p c) (implicationStart F) (3 * X) (each implicationRow (p .implications)) (p .goal ∷ claimRows c) from-implications implications-bytes
-
-  from-claim : drop (claimStart F X) (encode p c) ≡ claimRows c
-  from-claim = advance (encode p c) (goalStart F X) 1 (p .goal ∷ []) (claimRows c) from-goal refl
-
-  -- It reads back as the problem,
-  pub problem-back : All FlatFits (p .flats) → problemOf (encode p c) ≡ p
-  unfolding problemOf problemIn encode
-  problem-back fits =
-      ap₂ (problemIn (encode p c)) (flats-count F X (refutes c) (rowCount c) (addressed .starts) (addressed .size) (bodies p c))
-      (implications-count F X (refutes c) (rowCount c) (addressed .starts) (addressed .size) (bodies p c))
-      ∙ whole (encode p c)
-      (rows-read flatRow 16 length-flat FlatFits (encode p c) (flatFrom (encode p c)) (λ f at more. flat-read (encode p c) f at more) 38 (p .flats)
-      (each implicationRow (p .implications) ++ (p .goal ∷ claimRows c)) (record { left = 0; right = 0 }) fits from-flats)
-      (rows-read implicationRow 3 length-implication (λ i. Unit {0}) (encode p c) (implicationFrom (encode p c)) (λ i at more. implication-read (encode p c) i at more)
-      (implicationStart F) (p .implications) (p .goal ∷ claimRows c) (record { a = 0; b = 0; c = 0 }) (units (p .implications)) from-implications)
-      (byte-at (encode p c) 37 (p .n) (each flatRow (p .flats) ++ (each implicationRow (p .implications) ++ (p .goal ∷ claimRows c))) from-bodies)
-      (byte-at (encode p c) (goalStart F X) (p .goal) (claimRows c) from-goal)
-    where
-      units : (l : List Implication) → All (λ i. Unit {0}) l
-      units [] = tt
-      units (i ∷ l) = (tt, units l)
-
-      whole : (s : List ℕ) → rows (λ k. flatFrom s (38 + 16 * k)) F ≡ p .flats → rows (λ k. implicationFrom s (implicationStart F + 3 * k)) X ≡ p .implications
-          → getD s 37 0 ≡ p .n → getD s (goalStart F X) 0 ≡ p .goal → problemIn s F X ≡ p
-      whole s ef ei en eg =
-          ap₂ {C = Problem} (λ (n g : ℕ). record { n = n; flats = rows (λ k. flatFrom s (38 + 16 * k)) F; implications = rows (λ k. implicationFrom s (implicationStart F + 3 * k)) X; goal = g }) en eg
-          ∙ ap₂ {C = Problem} (λ (f : List Flat) (i : List Implication). record { n = p .n; flats = f; implications = i; goal = p .goal }) ef ei
-
-  claim-read : (d : Claim) → claimRows c ≡ claimRows d → ClaimFits d → claimIn (encode p c) (claimStart F X) (refutes d) (rowCount d) ≡ d
-  unfolding claimIn claimRows refutes rowCount
-  claim-read (valid S) e fits =
-      ap valid (rows-read stepRow 9 length-step (λ z. z .assumed < 256 ^ 8) (encode p c) (stepFrom (encode p c)) (λ z at more. step-read (encode p c) z at more) (claimStart F X) S []
-      (record { number = 0; assumed = 0 }) fits (from-claim ∙ e ∙ sym (append-nil (each stepRow S))))
-  claim-read (refuted W) e fits =
-      ap refuted (rows-read worldRow 8 length-world (λ w. w < 256 ^ 8) (encode p c) (worldFrom (encode p c)) (λ w at more. world-read (encode p c) w at more) (claimStart F X) W []
-      0 fits (from-claim ∙ e ∙ sym (append-nil (each worldRow W))))
-
-  -- and as the claim.
-  pub claim-back : ClaimFits c → claimOf (encode p c) ≡ c
-  unfolding claimOf encode
-  claim-back fits =
-      ap₂ (λ (f x : ℕ). claimIn (encode p c) (claimStart f x) (refuting (encode p c)) (claimCount (encode p c)))
-      (flats-count F X (refutes c) (rowCount c) (addressed .starts) (addressed .size) (bodies p c)) (implications-count F X (refutes c) (rowCount c) (addressed .starts) (addressed .size) (bodies p c))
-      ∙ ap₂ (claimIn (encode p c) (claimStart F X)) (refuting-is F X (refutes c) (rowCount c) (addressed .starts) (addressed .size) (bodies p c))
-      (claim-count F X (refutes c) (rowCount c) (addressed .starts) (addressed .size) (bodies p c))
-      ∙ claim-read c refl fits
-
-  -- "No sheet is longer than the length told": its length, and the bound.
+  -- Its length.
   pub encode-length : length (encode p c) ≡ encodedLength p c
   unfolding encode encodedLength contents entryRow digits
   encode-length = omega (arith, bodies-length)
+
+  module _ (addressed : Addressed p c) where
+    -- What is written keeps the layout.
+    pub encode-laid : laidOut (encode p c) ≡ true
+    unfolding encode
+    encode-laid = contents-laid F X (refutes c) (rowCount c) (addressed .starts) (addressed .size) (bodies p c) bodies-length (addressed .some)
+
+    -- Where each body starts.
+    from-bodies : drop 37 (encode p c) ≡ p .n ∷ (each flatRow (p .flats) ++ (each implicationRow (p .implications) ++ (p .goal ∷ claimRows c)))
+    unfolding encode
+    from-bodies = body-is F X (refutes c) (rowCount c) (addressed .starts) (addressed .size) (bodies p c) ∙ bodies-are
+
+    from-flats : drop 38 (encode p c) ≡ each flatRow (p .flats) ++ (each implicationRow (p .implications) ++ (p .goal ∷ claimRows c))
+    from-flats = advance (encode p c) 37 1 (p .n ∷ []) (each flatRow (p .flats) ++ (each implicationRow (p .implications) ++ (p .goal ∷ claimRows c))) from-bodies refl
+
+    from-implications : drop (implicationStart F) (encode p c) ≡ each implicationRow (p .implications) ++ (p .goal ∷ claimRows c)
+    from-implications = advance (encode p c) 38 (16 * F) (each flatRow (p .flats)) (each implicationRow (p .implications) ++ (p .goal ∷ claimRows c)) from-flats flats-bytes
+
+    from-goal : drop (goalStart F X) (encode p c) ≡ p .goal ∷ claimRows c
+    from-goal = advance (encode p c) (implicationStart F) (3 * X) (each implicationRow (p .implications)) (p .goal ∷ claimRows c) from-implications implications-bytes
+
+    from-claim : drop (claimStart F X) (encode p c) ≡ claimRows c
+    from-claim = advance (encode p c) (goalStart F X) 1 (p .goal ∷ []) (claimRows c) from-goal refl
+
+    -- It reads back as the problem,
+    pub problem-back : All FlatFits (p .flats) → problemOf (encode p c) ≡ p
+    unfolding problemOf problemIn encode
+    problem-back fits =
+        ap₂ (problemIn (encode p c)) (flats-count F X (refutes c) (rowCount c) (addressed .starts) (addressed .size) (bodies p c))
+        (implications-count F X (refutes c) (rowCount c) (addressed .starts) (addressed .size) (bodies p c))
+        ∙ whole (encode p c)
+        (rows-read flatRow 16 length-flat FlatFits (encode p c) (flatFrom (encode p c)) (λ f at more. flat-read (encode p c) f at more) 38 (p .flats)
+        (each implicationRow (p .implications) ++ (p .goal ∷ claimRows c)) (record { left = 0; right = 0 }) fits from-flats)
+        (rows-read implicationRow 3 length-implication (λ i. Unit {0}) (encode p c) (implicationFrom (encode p c)) (λ i at more. implication-read (encode p c) i at more)
+        (implicationStart F) (p .implications) (p .goal ∷ claimRows c) (record { a = 0; b = 0; c = 0 }) (units (p .implications)) from-implications)
+        (byte-at (encode p c) 37 (p .n) (each flatRow (p .flats) ++ (each implicationRow (p .implications) ++ (p .goal ∷ claimRows c))) from-bodies)
+        (byte-at (encode p c) (goalStart F X) (p .goal) (claimRows c) from-goal)
+      where
+        units : (l : List Implication) → All (λ i. Unit {0}) l
+        units [] = tt
+        units (i ∷ l) = (tt, units l)
+
+        whole : (s : List ℕ) → rows (λ k. flatFrom s (38 + 16 * k)) F ≡ p .flats → rows (λ k. implicationFrom s (implicationStart F + 3 * k)) X ≡ p .implications
+            → getD s 37 0 ≡ p .n → getD s (goalStart F X) 0 ≡ p .goal → problemIn s F X ≡ p
+        whole s ef ei en eg =
+            ap₂ {C = Problem} (λ (n g : ℕ). record { n = n; flats = rows (λ k. flatFrom s (38 + 16 * k)) F; implications = rows (λ k. implicationFrom s (implicationStart F + 3 * k)) X; goal = g }) en eg
+            ∙ ap₂ {C = Problem} (λ (f : List Flat) (i : List Implication). record { n = p .n; flats = f; implications = i; goal = p .goal }) ef ei
+
+    claim-read : (d : Claim) → claimRows c ≡ claimRows d → ClaimFits d → claimIn (encode p c) (claimStart F X) (refutes d) (rowCount d) ≡ d
+    unfolding claimIn claimRows refutes rowCount
+    claim-read (valid S) e fits =
+        ap valid (rows-read stepRow 9 length-step (λ z. z .assumed < 256 ^ 8) (encode p c) (stepFrom (encode p c)) (λ z at more. step-read (encode p c) z at more) (claimStart F X) S []
+        (record { number = 0; assumed = 0 }) fits (from-claim ∙ e ∙ sym (append-nil (each stepRow S))))
+    claim-read (refuted W) e fits =
+        ap refuted (rows-read worldRow 8 length-world (λ w. w < 256 ^ 8) (encode p c) (worldFrom (encode p c)) (λ w at more. world-read (encode p c) w at more) (claimStart F X) W []
+        0 fits (from-claim ∙ e ∙ sym (append-nil (each worldRow W))))
+
+    -- and as the claim.
+    pub claim-back : ClaimFits c → claimOf (encode p c) ≡ c
+    unfolding claimOf encode
+    claim-back fits =
+        ap₂ (λ (f x : ℕ). claimIn (encode p c) (claimStart f x) (refuting (encode p c)) (claimCount (encode p c)))
+        (flats-count F X (refutes c) (rowCount c) (addressed .starts) (addressed .size) (bodies p c)) (implications-count F X (refutes c) (rowCount c) (addressed .starts) (addressed .size) (bodies p c))
+        ∙ ap₂ (claimIn (encode p c) (claimStart F X)) (refuting-is F X (refutes c) (rowCount c) (addressed .starts) (addressed .size) (bodies p c))
+        (claim-count F X (refutes c) (rowCount c) (addressed .starts) (addressed .size) (bodies p c))
+        ∙ claim-read c refl fits

@@ -81,7 +81,7 @@ nothing-in-range total s r h =
     well-formed-in-range s (r .well-formed) [] (h .no-worlds) (omega arith) tt (subst (λ (v : Held). T (heldInRange (s .n) v)) (sym (h .no-verdict)) tt)
 
 -- What a call leaves: the book that it makes of the session's, and a session in range.
-abbrev Kept : Session → Call → Session → Type 0
+abbrev pub Kept : Session → Call → Session → Type 0
 Kept s c next-session = (book next-session ≡ next (book s) c) × (inRange next-session ≡ true)
 
 module _ (s : Session) (in-range : inRange s ≡ true) (r : Reached (book s)) where
@@ -164,7 +164,7 @@ module _ (s : Session) (in-range : inRange s ≡ true) (r : Reached (book s)) wh
   call-answer (addImplication a b c) x m = added-answer (callOf (addImplication a b c)) x m
   call-answer (question g) x m = verdict-is g x (answer (book s) g) (asked-as g x m)
 
-  call-kept : (c : Made) (x : Returned c) → Meets s c x → Kept s (callOf c) (sessionOf c x)
+  pub call-kept : (c : Made) (x : Returned c) → Meets s c x → Kept s (callOf c) (sessionOf c x)
   unfolding refusal
   call-kept (addFlat left right) x m = added-kept (callOf (addFlat left right)) x m
   call-kept (addImplication a b c) x m = added-kept (callOf (addImplication a b c)) x m

@@ -11,11 +11,11 @@ use Rattle.atoms.specs.Sets.{limit}
 use Rattle.atoms.proofs.Machine.{row-count-words}
 use Rattle.atoms.proofs.Truth.{T-left, T-right, T-and, T-true, true-T}
 use Rattle.ipl.specs.Lists.{all}
-use Rattle.ipl.specs.Range.{flatTable, implicationTable, stepTable, setInRange, flatInRange, implicationInRange}
+use Rattle.ipl.specs.Range.{flatTable, implicationTable, stepTable, worldTable, setInRange, flatInRange, implicationInRange}
 use Rattle.ipl.specs.Book.{countInRange}
 use Rattle.ipl.proofs.Lists.{all-All, All-tabulate}
 use Rattle.ipl.specs.Search.{stepInRange}
-use Rattle.prover.specs.State.{implicationRow, stepRow, flatsOf, implicationsOf, stepsOf}
+use Rattle.prover.specs.State.{implicationRow, stepRow, flatsOf, implicationsOf, stepsOf, worldsOf}
 use Rattle.prover.specs.InRange.{flatsInRange, implicationsInRange, stepsInRange, worldsInRange, heldInRange, inRange}
 use Rattle.prover.specs.Working.{Usable, StepsFit, KnownWritten}
 use Rattle.prover.specs.Search.{Tables, Fresh}
@@ -88,15 +88,19 @@ module _ (s : Session) where
               (all-All (implicationInRange (s .n)) (implicationsOf x) (T-right (leb (x .count) implicationTable) (all (implicationInRange (s .n)) (implicationsOf x)) t));
         }
 
-    few-flats : s .flats .count ≤ flatTable
+    pub few-flats : s .flats .count ≤ flatTable
     unfolding flatsInRange
     few-flats = leb→le (s .flats .count) flatTable (T-left (leb (s .flats .count) flatTable) (all (flatInRange (s .n)) (flatsOf (s .flats))) (parts in-range .flats))
 
-    steps-count : (s .steps .count ≤ stepTable) × T (all (stepInRange (s .n) (s .implications .count)) (stepsOf (s .steps)))
+    pub steps-count : (s .steps .count ≤ stepTable) × T (all (stepInRange (s .n) (s .implications .count)) (stepsOf (s .steps)))
     unfolding stepsInRange
     steps-count =
         let rows : Bool = all (stepInRange (s .n) (s .implications .count)) (stepsOf (s .steps)) in
         (leb→le (s .steps .count) stepTable (T-left (leb (s .steps .count) stepTable) rows (parts in-range .steps)), T-right (leb (s .steps .count) stepTable) rows (parts in-range .steps))
+
+    pub few-worlds : s .worlds .count ≤ worldTable
+    unfolding worldsInRange
+    few-worlds = leb→le (s .worlds .count) worldTable (T-left (leb (s .worlds .count) worldTable) (all (setInRange (s .n)) (worldsOf (s .worlds))) (parts in-range .worlds))
 
     number-below : (k : ℕ) → k < s .steps .count → stepRow (s .steps) k .number < s .implications .count
     unfolding stepInRange

@@ -9,6 +9,9 @@ mod realization;
 mod settling;
 mod working;
 
+// Whether a call on the session meets no refusal 5.
+pub use range::in_range;
+
 pub struct Flats {
     pub count: usize,
     pub left: [u64; 512 * atoms::WORDS],

@@ -1,0 +1,157 @@
+-- Demand 2: "every sheet written from a session opened by us and changed only through its calls is accepted and reads back as the
+-- problem and answer it came from", and "no sheet is longer than the length told". What a call leaves to be written is right.
+use mathlib.Core.Bool.{Bool, true, false, cond}
+use mathlib.Core.List.{List, [], _∷_, map}
+use mathlib.Core.Option.{Option, none, some, orElse}
+use mathlib.Core.Path.{_≡_, refl, sym, ap, ap₂, _∙_, subst}
+use Prim.Native.Nat.{ℕ, _≤_}
+use native.Mathlib.Decide.{decLe}
+use native.Mathlib.Omega.{arith}
+use lib.Dec.{eqb}
+use lib.ListN.{length, take}
+use borrow.Author.Tests.{eq-eqb, ne-eqb, le-leb}
+use Rattle.ipl.specs.Search.{Outcome, valid, refuted, refused, unfinished}
+use Rattle.ipl.specs.Book as B
+use Rattle.ipl.specs.Book.{Book, Call, opened, answer, refusal, taken, stepsAfter}
+use Rattle.ipl.proofs.Lists.{tabulate-length}
+use Rattle.ipl.proofs.Book.{Reached, opened-reached, next-reached}
+use Rattle.prover.specs.State.{flatsOf, implicationsOf, implicationRow, book}
+use Rattle.prover.specs.InRange.{inRange}
+use Rattle.prover.specs.Calls.{number, Added, AskedAs}
+use Rattle.prover.specs.Demand.{Made, addFlat, addImplication, question, callOf, Returned, sessionOf, Meets, Run}
+use Rattle.prover.specs.declared.Held.{Held}
+use Rattle.prover.specs.declared.Held.the-variants as held
+use Rattle.prover.specs.declared.Session.{Session}
+use Rattle.prover.specs.declared.Changed.{Changed}
+use Rattle.prover.specs.declared.Answered.{Answered}
+use Rattle.prover.proofs.Refusals.{clauses-length}
+use Rattle.prover.proofs.DemandThree.{Kept, nothing-in-range, asked-as, call-kept}
+use Rattle.certificate.specs.Certificate as certificate
+use Rattle.certificate.specs.Format.{bound}
+use Rattle.certificate.specs.Judge.{judge}
+use Rattle.certificate.specs.Written.{problemOfBook, claimOfVerdict}
+use Rattle.certificate.specs.Accepted.{Right}
+use Rattle.certificate.proofs.Acceptance.{encode-accepted, length-bound}
+use Rattle.certificate.proofs.Reached.{reached-right}
+use Rattle.certify.specs.Held.{Certificate, bytesOf, certificateOf, certificateHeld}
+use Rattle.certify.specs.Written.{WrittenAs}
+use Rattle.certify.specs.Demand.{withProblem, keeps, lastAnswer, endOf, CertificateWritten, WrittenFrom, DemandTwoWritten}
+use Rattle.certify.proofs.Buffer.{length-given}
+use Rattle.certify.specs.declared.Length.{Length}
+use Rattle.certify.specs.declared.Length.the-variants.{Bytes, Refused}
+use Rattle.atoms.proofs.Bytes.{take-put}
+
+-- ---- what a run keeps
+
+-- A right problem and answer, where there is one.
+abbrev IsRight : Option Certificate → Type 0
+IsRight none = Unit {0}
+IsRight (some x) = Right (x .problem) (x .claim)
+
+record Standing (s : Session) (x : Option Certificate) : Type 0 where
+  in-range : inRange s ≡ true
+  reached : Reached (book s)
+  held-is : certificateHeld s (s .held) ≡ x
+  right : IsRight x
+
+module _ (s : Session) (x : Option Certificate) (h : Standing s x) where
+  -- After a call, once it is known what is held.
+  after-call : (c : Call) (u : Session) → Kept s c u → (y : Option Certificate) → certificateHeld u (u .held) ≡ y → IsRight y → Standing u y
+  after-call c u k y e right = record { in-range = k .1; reached = subst Reached (sym (k .0)) (next-reached (book s) c (h .reached)); held-is = e; right = right }
+
+  added : (c : Call) (u : Changed) → Added s (number s (refusal (book s) c)) (taken (book s) c) u → Kept s c (u .session)
+      → Standing (u .session) (cond (eqb (refusal (book s) c) 0) none x)
+  added c u a k =
+      let met : number s (refusal (book s) c) ≡ refusal (book s) c = rw (h .in-range) refl in
+      elim (decLe (refusal (book s) c) 0) [
+        | yes l ↦
+            let e : refusal (book s) c ≡ 0 = omega arith in
+            rw (eq-eqb (refusal (book s) c) 0 e) (after-call c (u .session) k none (ap (certificateHeld (u .session)) (a .nothing (met ∙ e) .no-verdict)) tt)
+        | no l ↦
+            let d : refusal (book s) c ≡ 0 → ⊥ = λ e. omega arith in
+            let same : u .session ≡ s = a .unchanged (λ e. d (sym met ∙ e)) in
+            rw (ne-eqb (refusal (book s) c) 0 d) (subst (λ (v : Session). Standing v x) (sym same) h)
+      ]
+
+  answered : (g : ℕ) (u : Answered) → Kept s (B.question g) (u .session) → (o : Outcome) → answer (book s) g ≡ o → AskedAs s g o u
+      → Standing (u .session) (orElse (withProblem (book s) g (claimOfVerdict (book s) o)) x)
+  unfolding claimOfVerdict stepsAfter orElse
+  answered g u k (valid end) e a =
+      after-call (B.question g) (u .session) k (withProblem (book s) g (claimOfVerdict (book s) (valid end)))
+      (ap (certificateHeld (u .session)) (a .1 .verdict) ∙ ap (λ (b : Book). some (record { problem = problemOfBook b g; claim = certificate.valid (b .steps) })) (a .1 .holds))
+      (reached-right (book s) (h .reached) g (certificate.valid (end .steps)) (ap (claimOfVerdict (book s)) e))
+  answered g u k (refuted end) e a =
+      after-call (B.question g) (u .session) k (withProblem (book s) g (claimOfVerdict (book s) (refuted end)))
+      (ap (certificateHeld (u .session)) (a .1 .verdict)
+      ∙ ap₂ (λ (b : Book) (W : List ℕ). some (record { problem = problemOfBook b g; claim = certificate.refuted W })) (a .1 .holds) (a .1 .shows))
+      (reached-right (book s) (h .reached) g (certificate.refuted (end .worlds)) (ap (claimOfVerdict (book s)) e))
+  answered g u k (refused m) e a = subst (λ (v : Session). Standing v x) (sym (a .1)) h
+  answered g u k unfinished e a = absurd a
+
+  called : (c : Made) (u : Returned c) → Meets s c u → Standing (sessionOf c u) (keeps (book s) (callOf c) x)
+  unfolding refusal
+  called (addFlat left right) u m = added (callOf (addFlat left right)) u m (call-kept s (h .in-range) (h .reached) (addFlat left right) u m)
+  called (addImplication a b c) u m = added (callOf (addImplication a b c)) u m (call-kept s (h .in-range) (h .reached) (addImplication a b c) u m)
+  called (question g) u m =
+      answered g u (call-kept s (h .in-range) (h .reached) (question g) u m) (answer (book s) g) refl (asked-as s (h .in-range) (h .reached) g u m)
+
+run-stands : (cs : List Made) (s : Session) (x : Option Certificate) → Standing s x → (run : Run s cs) → Standing (endOf s cs run) (lastAnswer (book s) x (map callOf cs))
+unfolding lastAnswer
+run-stands [] s x h run = h
+run-stands (c ∷ cs) s x h run =
+    let u = sessionOf c (run .0) in
+    subst (λ (k : Book). Standing (endOf u cs (run .2)) (lastAnswer k (keeps (book s) (callOf c) x) (map callOf cs))) (call-kept s (h .in-range) (h .reached) c (run .0) (run .1) .0)
+    (run-stands cs u (keeps (book s) (callOf c) x) (called s x h c (run .0) (run .1)) (run .2))
+
+-- ---- what is written of it
+
+-- Its clauses are those held, so the bound for it is the length told.
+told-for : (s : Session) (x : Certificate) → x .problem .flats ≡ flatsOf (s .flats) → x .problem .implications ≡ implicationsOf (s .implications)
+    → bound (length (x .problem .flats)) (length (x .problem .implications)) ≡ bound (s .flats .count) (s .implications .count)
+told-for s x f i =
+    ap₂ bound (ap length f ∙ clauses-length (s .flats .left) (s .flats .right) (s .flats .count)) (ap length i ∙ tabulate-length (implicationRow (s .implications)) (s .implications .count))
+
+told-held : (s : Session) (v : Held) (x : Certificate) → certificateHeld s v ≡ some x
+    → bound (length (x .problem .flats)) (length (x .problem .implications)) ≡ bound (s .flats .count) (s .implications .count)
+told-held s held.Nothing x e = let z : _≡_ {A = ℕ} 0 1 = cc in absurd (omega arith)
+told-held s (held.Valid g) x e = let same : certificateOf s g false ≡ x = cc in told-for s x (ap (λ y. y .problem .flats) (sym same)) (ap (λ y. y .problem .implications) (sym same))
+told-held s (held.Refuted g) x e = let same : certificateOf s g true ≡ x = cc in told-for s x (ap (λ y. y .problem .flats) (sym same)) (ap (λ y. y .problem .implications) (sym same))
+
+module _ (s : Session) (x : Certificate) (h : Standing s (some x)) (before : List ℕ) (r : Length) (after : List ℕ) (w : WrittenAs (some x) before r after) where
+  abbrev size : ℕ
+  size = length (bytesOf x)
+
+  abbrev told : ℕ
+  told = bound (s .flats .count) (s .implications .count)
+
+  no-longer-than-told : size ≤ told
+  no-longer-than-told = subst (λ (z : ℕ). size ≤ z) (told-held s (s .held) x (h .held-is)) (length-bound (x .problem) (x .claim) (h .right) .1)
+
+  certificate-written : CertificateWritten s x before r after
+  certificate-written = record {
+    accepted-back = λ n e.
+        let l = length-given x before r after w n e in
+        ap judge (ap₂ (λ (m : ℕ) (b : List ℕ). take m b) (sym (l .0)) (w .buffer) ∙ take-put before (bytesOf x) (l .1)) ∙ encode-accepted (x .problem) (x .claim) (h .right);
+    told = told;
+    told-is = ap (λ (b : Bool). cond b (Bytes told) (Refused 5)) (h .in-range);
+    no-longer = λ n e. omega (arith, length-given x before r after w n e .0, no-longer-than-told);
+    enough = λ room. (size, w .answer ∙ ap (λ (b : Bool). cond b (Bytes size) (Refused 10)) (le-leb size (length before) (omega (arith, no-longer-than-told))));
+  }
+
+written-from : (s : Session) (x : Option Certificate) → Standing s x → (before : List ℕ) (r : Length) (after : List ℕ) → WrittenAs x before r after → WrittenFrom s x before r after
+written-from s none h before r after w = w .answer
+written-from s (some x) h before r after w = certificate-written s x h before r after w
+
+pub demand-two-written : DemandTwoWritten
+demand-two-written n o opening cs run before r after w =
+    let first : Reached (book (o .session)) = subst Reached (sym (opening .holds)) (opened-reached n) in
+    let start : Standing (o .session) none = record {
+      in-range = nothing-in-range 0 (o .session) first (opening .nothing);
+      reached = first;
+      held-is = ap (certificateHeld (o .session)) (opening .nothing .no-verdict);
+      right = tt;
+    } in
+    let end = endOf (o .session) cs run in
+    let x = lastAnswer (opened n) none (map callOf cs) in
+    let stands : Standing end x = subst (λ (k : Book). Standing end (lastAnswer k none (map callOf cs))) (opening .holds) (run-stands cs (o .session) none start run) in
+    written-from end x stands before r after (subst (λ (y : Option Certificate). WrittenAs y before r after) (stands .held-is) (w .written (stands .in-range)))

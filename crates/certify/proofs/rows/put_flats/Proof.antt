@@ -1,0 +1,78 @@
+-- The rows passed are put.
+use borrow.Author.Needs.{needs}
+use native.Mathlib.Omega.{arith}
+use mathlib.Core.Path.{_≡_, refl, ap₂}
+use Prim.Native.Nat.{ℕ, _≤_, _-_}
+use lib.ListN.{length}
+use Rattle.atoms.specs.Bytes.{putAt}
+use Rattle.ipl.specs.Lists.{tabulate}
+use Rattle.ipl.specs.Clause.{Flat}
+use Rattle.sat.specs.Table.{clauseAt, clauses}
+use Rattle.certificate.specs.Format.{each, flatRow}
+use Rattle.certificate.proofs.Encoding.{length-flat}
+use Rattle.certify.proofs.Bodies.{rows-none, rows-next, rows-end}
+use Rattle.certify.proofs.rows.put_flats.Statement.{statement}
+use Rattle.certify.proofs.rows.put_flats.Tie as tie
+
+abbrev Inv-loop : tie.InvT-loop
+Inv-loop buffer₀ at t count i₀ buffer i = (i ≤ count) × (length buffer ≡ length buffer₀) × (buffer ≡ putAt buffer₀ at (each flatRow (tabulate (clauseAt (t .left) (t .right)) i)))
+
+abbrev μ-loop : tie.MeasureT-loop
+μ-loop buffer₀ at t count i₀ buffer i = count - i
+
+loop-holds : tie.Need-loop-holds Inv-loop μ-loop
+loop-holds c = (omega arith, refl, rows-none flatRow 16 length-flat _ _ _)
+
+mul-put-flat : tie.Need-mul-put-flat Inv-loop μ-loop
+mul-put-flat c = search needs
+
+add-put-flat : tie.Need-add-put-flat Inv-loop μ-loop
+add-put-flat c = search needs
+
+row-requires : tie.Need-row-requires Inv-loop μ-loop
+row-requires c κs = search needs
+
+row-requires-2 : tie.Need-row-requires-2 Inv-loop μ-loop
+row-requires-2 c κs = search needs
+
+put-flat-requires : tie.Need-put-flat-requires Inv-loop μ-loop
+put-flat-requires c κs = search needs
+
+add-i : tie.Need-add-i Inv-loop μ-loop
+add-i c = search needs
+
+loop-less : tie.Need-loop-less Inv-loop μ-loop
+loop-less c = search needs
+
+loop-again : tie.Need-loop-again Inv-loop μ-loop
+loop-again c =
+    let s = c .before .before .before .before .before .before .before .before .before .before .before .before .before .before .before .args in
+    let l = c .before .before .before .before .before .before .before .before .before .before .before .before .before .loop in
+    (omega arith, omega arith, rows-next flatRow 16 length-flat (clauseAt (s .t3 .left) (s .t3 .right)) _ _ _ _ (l .i) (s .t3 .count) _ (omega arith) (c .before .before .before .before .before .before .before .before .before .before .before .before .before .before .before .pre) (l .inv .2) (c .before .before .put-flat .ensures) (ap₂ {C = Flat} (λ (x y : ℕ). record { left = x; right = y }) (c .before .before .before .before .before .before .before .row .ensures) (c .before .before .before .row2 .ensures)))
+
+same-length : tie.Need-same-length Inv-loop μ-loop
+same-length c = c .before .loop .inv .1
+
+returns : tie.Need-returns Inv-loop μ-loop
+unfolding clauses
+returns c =
+    let s = c .before .before .before .args in
+    rows-end flatRow 16 length-flat (clauseAt (s .t3 .left) (s .t3 .right)) _ _ _ (c .before .loop .i) (s .t3 .count) (omega arith) (omega arith) (c .before .loop .inv .2)
+
+pub put-flats-spec : {M : Type 1} → statement M
+put-flats-spec =
+    tie.close
+    (tie.spec
+    Inv-loop
+    μ-loop
+    loop-holds
+    mul-put-flat
+    add-put-flat
+    row-requires
+    row-requires-2
+    put-flat-requires
+    add-i
+    loop-less
+    loop-again
+    same-length
+    returns)

@@ -1,0 +1,80 @@
+-- The rows passed are put.
+use borrow.Author.Needs.{needs}
+use native.Mathlib.Omega.{arith}
+use mathlib.Core.Path.{_≡_, refl}
+use Prim.Native.Nat.{_≤_, _-_}
+use lib.ListN.{length}
+use Rattle.atoms.specs.Bytes.{putAt}
+use Rattle.ipl.specs.Lists.{tabulate}
+use Rattle.prover.specs.State as S
+use Rattle.certificate.specs.Format.{each, implicationRow}
+use Rattle.certificate.proofs.Encoding.{length-implication}
+use Rattle.certify.proofs.Bodies.{rows-none, rows-next, rows-end}
+use Rattle.certify.proofs.rows.put_implications.Statement.{statement}
+use Rattle.certify.proofs.rows.put_implications.Tie as tie
+
+abbrev Inv-loop : tie.InvT-loop
+Inv-loop buffer₀ at t count i₀ buffer i = (i ≤ count) × (length buffer ≡ length buffer₀) × (buffer ≡ putAt buffer₀ at (each implicationRow (tabulate (S.implicationRow t) i)))
+
+abbrev μ-loop : tie.MeasureT-loop
+μ-loop buffer₀ at t count i₀ buffer i = count - i
+
+loop-holds : tie.Need-loop-holds Inv-loop μ-loop
+loop-holds c = (omega arith, refl, rows-none implicationRow 3 length-implication _ _ _)
+
+mul-put-implication : tie.Need-mul-put-implication Inv-loop μ-loop
+mul-put-implication c = search needs
+
+add-put-implication : tie.Need-add-put-implication Inv-loop μ-loop
+add-put-implication c = search needs
+
+element-copy-out-put-implication : tie.Need-element-copy-out-put-implication Inv-loop μ-loop
+element-copy-out-put-implication c = search needs
+
+element-copy-out-put-implication-2 : tie.Need-element-copy-out-put-implication-2 Inv-loop μ-loop
+element-copy-out-put-implication-2 c = search needs
+
+element-copy-out-put-implication-3 : tie.Need-element-copy-out-put-implication-3 Inv-loop μ-loop
+element-copy-out-put-implication-3 c = search needs
+
+put-implication-requires : tie.Need-put-implication-requires Inv-loop μ-loop
+put-implication-requires c κs = search needs
+
+add-i : tie.Need-add-i Inv-loop μ-loop
+add-i c = search needs
+
+loop-less : tie.Need-loop-less Inv-loop μ-loop
+loop-less c = search needs
+
+loop-again : tie.Need-loop-again Inv-loop μ-loop
+loop-again c =
+    let s = c .before .before .before .before .before .before .before .before .before .before .args in
+    let l = c .before .before .before .before .before .before .before .before .loop in
+    (omega arith, omega arith, rows-next implicationRow 3 length-implication (S.implicationRow (s .t3)) _ _ _ _ (l .i) (s .t3 .count) _ (omega arith) (c .before .before .before .before .before .before .before .before .before .before .pre .0) (l .inv .2) (c .before .before .put-implication .ensures) (refl))
+
+same-length : tie.Need-same-length Inv-loop μ-loop
+same-length c = c .before .loop .inv .1
+
+returns : tie.Need-returns Inv-loop μ-loop
+returns c =
+    let s = c .before .before .before .args in
+    rows-end implicationRow 3 length-implication (S.implicationRow (s .t3)) _ _ _ (c .before .loop .i) (s .t3 .count) (omega arith) (omega arith) (c .before .loop .inv .2)
+
+pub put-implications-spec : {M : Type 1} → statement M
+put-implications-spec =
+    tie.close
+    (tie.spec
+    Inv-loop
+    μ-loop
+    loop-holds
+    mul-put-implication
+    add-put-implication
+    element-copy-out-put-implication
+    element-copy-out-put-implication-2
+    element-copy-out-put-implication-3
+    put-implication-requires
+    add-i
+    loop-less
+    loop-again
+    same-length
+    returns)

@@ -1,0 +1,77 @@
+-- The rows passed are put.
+use borrow.Author.Needs.{needs}
+use native.Mathlib.Omega.{arith}
+use mathlib.Core.Path.{_≡_, refl, ap}
+use Prim.Native.Nat.{ℕ, _≤_, _-_}
+use lib.ListN.{length}
+use Rattle.atoms.specs.Bytes.{putAt}
+use Rattle.ipl.specs.Lists.{tabulate}
+use Rattle.ipl.specs.Search.{Step}
+use Rattle.prover.specs.State as S
+use Rattle.certificate.specs.Format.{each, stepRow}
+use Rattle.certificate.proofs.Encoding.{length-step}
+use Rattle.certify.proofs.Bodies.{rows-none, rows-next, rows-end}
+use Rattle.certify.proofs.rows.put_steps.Statement.{statement}
+use Rattle.certify.proofs.rows.put_steps.Tie as tie
+
+abbrev Inv-loop : tie.InvT-loop
+Inv-loop buffer₀ at t count i₀ buffer i = (i ≤ count) × (length buffer ≡ length buffer₀) × (buffer ≡ putAt buffer₀ at (each stepRow (tabulate (S.stepRow t) i)))
+
+abbrev μ-loop : tie.MeasureT-loop
+μ-loop buffer₀ at t count i₀ buffer i = count - i
+
+loop-holds : tie.Need-loop-holds Inv-loop μ-loop
+loop-holds c = (omega arith, refl, rows-none stepRow 9 length-step _ _ _)
+
+mul-put-step : tie.Need-mul-put-step Inv-loop μ-loop
+mul-put-step c = search needs
+
+add-put-step : tie.Need-add-put-step Inv-loop μ-loop
+add-put-step c = search needs
+
+element-copy-out-put-step : tie.Need-element-copy-out-put-step Inv-loop μ-loop
+element-copy-out-put-step c = search needs
+
+row-requires : tie.Need-row-requires Inv-loop μ-loop
+row-requires c κs = search needs
+
+put-step-requires : tie.Need-put-step-requires Inv-loop μ-loop
+put-step-requires c κs = search needs
+
+add-i : tie.Need-add-i Inv-loop μ-loop
+add-i c = search needs
+
+loop-less : tie.Need-loop-less Inv-loop μ-loop
+loop-less c = search needs
+
+loop-again : tie.Need-loop-again Inv-loop μ-loop
+loop-again c =
+    let s = c .before .before .before .before .before .before .before .before .before .before .before .before .args in
+    let l = c .before .before .before .before .before .before .before .before .before .before .loop in
+    (omega arith, omega arith, rows-next stepRow 9 length-step (S.stepRow (s .t3)) _ _ _ _ (l .i) (s .t3 .count) _ (omega arith) (c .before .before .before .before .before .before .before .before .before .before .before .before .pre .0) (l .inv .2) (c .before .before .put-step .ensures) (ap {B = Step} (λ (x : ℕ). record { number = S.byteAt (s .t3 .numbers) (l .i); assumed = x }) (c .before .before .before .row .ensures)))
+
+same-length : tie.Need-same-length Inv-loop μ-loop
+same-length c = c .before .loop .inv .1
+
+returns : tie.Need-returns Inv-loop μ-loop
+returns c =
+    let s = c .before .before .before .args in
+    rows-end stepRow 9 length-step (S.stepRow (s .t3)) _ _ _ (c .before .loop .i) (s .t3 .count) (omega arith) (omega arith) (c .before .loop .inv .2)
+
+pub put-steps-spec : {M : Type 1} → statement M
+put-steps-spec =
+    tie.close
+    (tie.spec
+    Inv-loop
+    μ-loop
+    loop-holds
+    mul-put-step
+    add-put-step
+    element-copy-out-put-step
+    row-requires
+    put-step-requires
+    add-i
+    loop-less
+    loop-again
+    same-length
+    returns)

@@ -1,0 +1,73 @@
+-- The rows passed are put.
+use borrow.Author.Needs.{needs}
+use native.Mathlib.Omega.{arith}
+use mathlib.Core.Path.{_≡_, refl}
+use Prim.Native.Nat.{_≤_, _-_}
+use lib.ListN.{length}
+use Rattle.atoms.specs.Bytes.{putAt}
+use Rattle.ipl.specs.Lists.{tabulate}
+use Rattle.atoms.specs.Words.{rowOf}
+use Rattle.certificate.specs.Format.{each, worldRow}
+use Rattle.certificate.proofs.Encoding.{length-world}
+use Rattle.certify.proofs.Bodies.{rows-none, rows-next, rows-end}
+use Rattle.certify.proofs.rows.put_worlds.Statement.{statement}
+use Rattle.certify.proofs.rows.put_worlds.Tie as tie
+
+abbrev Inv-loop : tie.InvT-loop
+Inv-loop buffer₀ at t count i₀ buffer i = (i ≤ count) × (length buffer ≡ length buffer₀) × (buffer ≡ putAt buffer₀ at (each worldRow (tabulate (rowOf (t .sets)) i)))
+
+abbrev μ-loop : tie.MeasureT-loop
+μ-loop buffer₀ at t count i₀ buffer i = count - i
+
+loop-holds : tie.Need-loop-holds Inv-loop μ-loop
+loop-holds c = (omega arith, refl, rows-none worldRow 8 length-world _ _ _)
+
+mul-store : tie.Need-mul-store Inv-loop μ-loop
+mul-store c = search needs
+
+add-store : tie.Need-add-store Inv-loop μ-loop
+add-store c = search needs
+
+row-requires : tie.Need-row-requires Inv-loop μ-loop
+row-requires c κs = search needs
+
+store-requires : tie.Need-store-requires Inv-loop μ-loop
+store-requires c κs = search needs
+
+add-i : tie.Need-add-i Inv-loop μ-loop
+add-i c = search needs
+
+loop-less : tie.Need-loop-less Inv-loop μ-loop
+loop-less c = search needs
+
+loop-again : tie.Need-loop-again Inv-loop μ-loop
+unfolding worldRow
+loop-again c =
+    let s = c .before .before .before .before .before .before .before .before .before .before .before .args in
+    let l = c .before .before .before .before .before .before .before .before .before .loop in
+    (omega arith, omega arith, rows-next worldRow 8 length-world (rowOf (s .t3 .sets)) _ _ _ _ (l .i) (s .t3 .count) _ (omega arith) (c .before .before .before .before .before .before .before .before .before .before .before .pre) (l .inv .2) (c .before .before .store .ensures) (c .before .before .before .row .ensures))
+
+same-length : tie.Need-same-length Inv-loop μ-loop
+same-length c = c .before .loop .inv .1
+
+returns : tie.Need-returns Inv-loop μ-loop
+returns c =
+    let s = c .before .before .before .args in
+    rows-end worldRow 8 length-world (rowOf (s .t3 .sets)) _ _ _ (c .before .loop .i) (s .t3 .count) (omega arith) (omega arith) (c .before .loop .inv .2)
+
+pub put-worlds-spec : {M : Type 1} → statement M
+put-worlds-spec =
+    tie.close
+    (tie.spec
+    Inv-loop
+    μ-loop
+    loop-holds
+    mul-store
+    add-store
+    row-requires
+    store-requires
+    add-i
+    loop-less
+    loop-again
+    same-length
+    returns)

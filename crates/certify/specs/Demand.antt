@@ -1,0 +1,65 @@
+-- Demand 2, what is written: "every sheet written from a session opened by us and changed only through its calls is accepted and
+-- reads back as the problem and answer it came from"; "no sheet is longer than the length told".
+use mathlib.Core.Bool.{cond}
+use mathlib.Core.List.{List, [], _∷_, map}
+use mathlib.Core.Option.{Option, none, some, orElse}
+use mathlib.Core.Path.{_≡_}
+use Prim.Native.Nat.{ℕ, _≤_}
+use lib.Dec.{eqb}
+use lib.ListN.{length, take}
+use Rattle.ipl.specs.Book as B
+use Rattle.ipl.specs.Book.{Book, Call, opened, answer, refusal, next}
+use Rattle.prover.specs.Calls.{Opened}
+use Rattle.prover.specs.Demand.{Made, callOf, sessionOf, Run}
+use Rattle.prover.specs.declared.Session.{Session}
+use Rattle.prover.specs.declared.Changed.{Changed}
+use Rattle.certificate.specs.Certificate.{Claim, accepted}
+use Rattle.certificate.specs.Judge.{judge}
+use Rattle.certificate.specs.Written.{problemOfBook, claimOfVerdict}
+use Rattle.certify.specs.Held.{Certificate}
+use Rattle.certify.specs.Written.{lengthTold, Written}
+use Rattle.certify.specs.declared.Length.{Length}
+use Rattle.certify.specs.declared.Length.the-variants.{Bytes, Refused}
+
+-- The problem and answer of a question put to the book, where it gets a verdict.
+abbrev pub withProblem : Book → ℕ → Option Claim → Option Certificate
+withProblem k g none = none
+withProblem k g (some c) = some (record { problem = problemOfBook k g; claim = c })
+
+-- What there is to write after a call: an addition that is taken leaves nothing, a verdict its problem and answer; else it stays.
+abbrev pub keeps : Book → Call → Option Certificate → Option Certificate
+keeps k (B.addFlat f) x = cond (eqb (refusal k (B.addFlat f)) 0) none x
+keeps k (B.addImplication i) x = cond (eqb (refusal k (B.addImplication i)) 0) none x
+keeps k (B.question g) x = orElse (withProblem k g (claimOfVerdict k (answer k g))) x
+
+-- "The session keeps its last verdict until a clause is added", by the book alone: x is what there was before the calls.
+unfoldable pub lastAnswer : Book → Option Certificate → List Call → Option Certificate
+lastAnswer k x [] = x
+lastAnswer k x (c ∷ cs) = lastAnswer (next k c) (keeps k c x) cs
+
+-- The session that a run ends with.
+abbrev pub endOf : (s : Session) (cs : List Made) → Run s cs → Session
+endOf s [] run = s
+endOf s (c ∷ cs) run = endOf (sessionOf c (run .0)) cs (run .2)
+
+-- Of what was written of s into a buffer, where x is the problem and answer.
+pub record CertificateWritten (s : Session) (x : Certificate) (before : List ℕ) (r : Length) (after : List ℕ) : Type 0 where
+  -- It "is accepted and reads back as the problem and answer it came from".
+  pub accepted-back : (size : ℕ) → r ≡ Bytes size → judge (take size after) ≡ accepted (x .problem) (x .claim)
+  -- "A caller can learn beforehand a length":
+  pub told : ℕ
+  pub told-is : lengthTold s ≡ Bytes told
+  -- "no sheet is longer than the length told", and a buffer of that length is enough.
+  pub no-longer : (size : ℕ) → r ≡ Bytes size → size ≤ told
+  pub enough : told ≤ length before → (size : ℕ) × (r ≡ Bytes size)
+
+-- Nothing to write: refused 9.
+abbrev pub WrittenFrom : Session → Option Certificate → List ℕ → Length → List ℕ → Type 0
+WrittenFrom s none before r after = r ≡ Refused 9
+WrittenFrom s (some x) before r after = CertificateWritten s x before r after
+
+-- For every n, every opening, every list of calls and every run of them: what is written of the session at the end.
+abbrev pub DemandTwoWritten : Type 0
+DemandTwoWritten = (n : ℕ) (o : Changed) → Opened n o → (cs : List Made) (run : Run (o .session) cs)
+    → (before : List ℕ) (r : Length) (after : List ℕ) → Written (endOf (o .session) cs run) before r after
+    → WrittenFrom (endOf (o .session) cs run) (lastAnswer (opened n) none (map callOf cs)) before r after
