@@ -15,6 +15,7 @@ use Rattle.ipl.proofs.Lists.{tabulate-length}
 use Rattle.prover.specs.State.{flatsOf, implicationsOf, stepsOf}
 use Rattle.prover.specs.InRange.{inRange}
 use Rattle.prover.specs.Calls.{goalNumber, outcome, Answer, AskedAs, Asked}
+use Rattle.prover.specs.Settling.{whole}
 use Rattle.prover.specs.Search.{Tables, stepIn, stepsIn, stateOf, Ended}
 use Rattle.prover.specs.declared.Session.{Session}
 use Rattle.prover.specs.declared.Answered.{Answered}
@@ -25,10 +26,6 @@ use Rattle.prover.specs.declared.question.End.{End}
 use Rattle.prover.specs.declared.question.End.the-variants as end
 use Rattle.prover.proofs.Refusals.{number-zero}
 
--- The whole search over the session's clauses.
-abbrev whole : Session → ℕ → List Flat → Outcome
-whole s g F = search (s .n) F (implicationsOf (s .implications)) g (stepsOf (s .steps))
-
 -- ---- the search's end
 pub few-valid : (o : Outcome) (t : Tables) (e : End) → Ended o t e → (p : Progress) → e ≡ end.Valid p → p .questions < 513 * 258
 few-valid o t e h p r = subst (Ended o t) r h .1
@@ -36,31 +33,33 @@ few-valid o t e h p r = subst (Ended o t) r h .1
 pub few-refuted : (o : Outcome) (t : Tables) (e : End) → Ended o t e → (p : Progress) → e ≡ end.Refuted p → p .questions < 513 * 258
 few-refuted o t e h p r = subst (Ended o t) r h .1
 
--- In tables whose flat clauses are those of the session.
-module _ (s : Session) (g : ℕ) (F : List Flat) (t : Tables) (e : End) (h : Ended (whole s g F) t e) (same : F ≡ flatsOf (s .flats)) where
-  ended : Ended (whole s g (flatsOf (s .flats))) t e
-  ended = subst (λ (F : List Flat). Ended (whole s g F) t e) same h
-
+module _ (s : Session) (g : ℕ) (o : Outcome) (t : Tables) (e : End) (h : Ended o t e) where
   pub valid-asked : (p : Progress) → e ≡ end.Valid p → (r : Session)
       → Answer s (record { steps = stepsIn t p; worlds = tabulate (rowOf (t .sets)) 0; questions = p .questions + 1 }) (held.Valid g) r
-      → AskedAs s g (whole s g (flatsOf (s .flats))) (record { verdict = verdict.Valid (p .steps); session = r })
+      → AskedAs s g o (record { verdict = verdict.Valid (p .steps); session = r })
   unfolding tabulate
   valid-asked p r next a =
-      subst (λ (o : Outcome). AskedAs s g o (record { verdict = verdict.Valid (p .steps); session = next })) (sym (subst (Ended (whole s g (flatsOf (s .flats))) t) r ended .0)) (
+      subst (λ (o : Outcome). AskedAs s g o (record { verdict = verdict.Valid (p .steps); session = next })) (sym (subst (Ended o t) r h .0)) (
         ap verdict.Valid (sym (tabulate-length (stepIn (t .numbers) (t .assumed)) (p .steps))),
         subst (λ (q : ℕ). Answer s (record { steps = stepsIn t p; worlds = []; questions = q }) (held.Valid g) next) (add-one (p .questions)) a,
       )
 
   pub refuted-asked : (p : Progress) → e ≡ end.Refuted p → (r : Session) → Answer s (stateOf t p) (held.Refuted g) r
-      → AskedAs s g (whole s g (flatsOf (s .flats))) (record { verdict = verdict.Refuted (p .worlds); session = r })
+      → AskedAs s g o (record { verdict = verdict.Refuted (p .worlds); session = r })
   refuted-asked p r next a =
-      subst (λ (o : Outcome). AskedAs s g o (record { verdict = verdict.Refuted (p .worlds); session = next })) (sym (subst (Ended (whole s g (flatsOf (s .flats))) t) r ended .0))
+      subst (λ (o : Outcome). AskedAs s g o (record { verdict = verdict.Refuted (p .worlds); session = next })) (sym (subst (Ended o t) r h .0))
       (ap verdict.Refuted (sym (tabulate-length (rowOf (t .sets)) (p .worlds))), a)
 
-  pub full-asked : (k : ℕ) → e ≡ end.Full k → AskedAs s g (whole s g (flatsOf (s .flats))) (record { verdict = verdict.Refused k 0; session = s })
-  full-asked k r =
-      subst (λ (o : Outcome). AskedAs s g o (record { verdict = verdict.Refused k 0; session = s })) (sym (subst (Ended (whole s g (flatsOf (s .flats))) t) r ended))
-      (refl, refl)
+  pub full-asked : (k : ℕ) → e ≡ end.Full k → AskedAs s g o (record { verdict = verdict.Refused k 0; session = s })
+  full-asked k r = subst (λ (o : Outcome). AskedAs s g o (record { verdict = verdict.Refused k 0; session = s })) (sym (subst (Ended o t) r h)) (refl, refl)
+
+-- The search in the prepared tables is the whole one.
+pub ended-whole : (s : Session) (g : ℕ) (F : List Flat) (numbers assumed : List ℕ) (t : Tables) (e : End) → F ≡ flatsOf (s .flats) → numbers ≡ s .steps .numbers → assumed ≡ s .steps .assumed
+    → Ended (search (s .n) F (implicationsOf (s .implications)) g (tabulate (stepIn numbers assumed) (s .steps .count))) t e → Ended (whole s g) t e
+ended-whole s g F numbers assumed t e same n a h =
+    subst (λ (F : List Flat). Ended (search (s .n) F (implicationsOf (s .implications)) g (stepsOf (s .steps))) t e) same
+    (subst (λ (m : List ℕ). Ended (search (s .n) F (implicationsOf (s .implications)) g (tabulate (stepIn m (s .steps .assumed)) (s .steps .count))) t e) n
+    (subst (λ (A : List ℕ). Ended (search (s .n) F (implicationsOf (s .implications)) g (tabulate (stepIn numbers A) (s .steps .count))) t e) a h))
 
 -- ---- the refusals before the search
 pub goal-zero : (s : Session) (g : ℕ) → goalNumber s g ≡ 0 → (inRange s ≡ true) × (atomOrBot (s .n) g ≡ true)
@@ -70,7 +69,7 @@ goal-zero s g e = let z = number-zero s (cond (atomOrBot (s .n) g) 0 6) e in (z 
     go true e = refl
     go false e = absurd (omega arith)
 
-pub asked-whole : (s : Session) (g : ℕ) → goalNumber s g ≡ 0 → (r : Answered) → AskedAs s g (whole s g (flatsOf (s .flats))) r → Asked s g r
+pub asked-whole : (s : Session) (g : ℕ) → goalNumber s g ≡ 0 → (r : Answered) → AskedAs s g (whole s g) r → Asked s g r
 unfolding answer
 asked-whole s g e r a = rw (goal-zero s g e .0, goal-zero s g e .1) a
 
@@ -78,7 +77,7 @@ refused-outcome : (s : Session) (g : ℕ) → (goalNumber s g ≡ 0 → ⊥) →
 unfolding answer
 refused-outcome s g = go (inRange s) (atomOrBot (s .n) g)
   where
-    go : (a b : Bool) → (_≡_ {A = ℕ} (cond a (cond b 0 6) 5) 0 → ⊥) → _≡_ {A = Outcome} (cond a (cond b (whole s g (flatsOf (s .flats))) (refused 6)) (refused 5)) (refused (cond a (cond b 0 6) 5))
+    go : (a b : Bool) → (_≡_ {A = ℕ} (cond a (cond b 0 6) 5) 0 → ⊥) → _≡_ {A = Outcome} (cond a (cond b (whole s g) (refused 6)) (refused 5)) (refused (cond a (cond b 0 6) 5))
     go true true d = absurd (d refl)
     go true false d = refl
     go false b d = refl

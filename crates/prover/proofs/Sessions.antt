@@ -14,11 +14,11 @@ use Rattle.ipl.specs.Lists.{all}
 use Rattle.ipl.specs.Range.{flatTable, implicationTable, stepTable, setInRange, flatInRange, implicationInRange}
 use Rattle.ipl.specs.Book.{countInRange}
 use Rattle.ipl.proofs.Lists.{all-All, All-tabulate}
-use Rattle.prover.specs.State.{implicationRow, stepRow, flatsOf, implicationsOf, stepsOf}
 use Rattle.ipl.specs.Search.{stepInRange}
+use Rattle.prover.specs.State.{implicationRow, stepRow, flatsOf, implicationsOf, stepsOf}
 use Rattle.prover.specs.InRange.{flatsInRange, implicationsInRange, stepsInRange, worldsInRange, heldInRange, inRange}
 use Rattle.prover.specs.Working.{Usable, StepsFit, KnownWritten}
-use Rattle.prover.specs.Search.{Fresh}
+use Rattle.prover.specs.Search.{Tables, Fresh}
 use Rattle.prover.specs.declared.Session.{Session}
 
 pub record Parts (s : Session) : Type 0 where
@@ -117,21 +117,21 @@ module _ (s : Session) where
     }
 
     -- The working tables at the start.
-    pub fresh : (left right left2 right2 sets : List ℕ) → length left ≡ 1024 → length right ≡ 1024 → length (s .steps .numbers) ≡ 512 → length (s .steps .assumed) ≡ 512 → length sets ≡ 256
-        → KnownWritten left right (s .flats) (s .steps) (s .implications) left2 right2
-        → Fresh (s .implications) (record { left = left2; right = right2; numbers = s .steps .numbers; assumed = s .steps .assumed; sets = sets })
+    pub fresh : (t : Tables) (left2 right2 : List ℕ) → length (t .left) ≡ 1024 → length (t .right) ≡ 1024 → length (t .numbers) ≡ 512 → length (t .assumed) ≡ 512 → length (t .sets) ≡ 256
+        → t .numbers ≡ s .steps .numbers → t .assumed ≡ s .steps .assumed → KnownWritten (t .left) (t .right) (s .flats) (s .steps) (s .implications) left2 right2
+        → Fresh (s .implications) (record { left = left2; right = right2; numbers = t .numbers; assumed = t .assumed; sets = t .sets })
         (record { flats = s .flats .count; steps = s .steps .count; worlds = 0; questions = 0; pair = record { world = 0; implication = 0 } })
-    fresh left right left2 right2 sets l r ln la ls k = record {
+    fresh t left2 right2 l r ln la ls n a k = record {
       working = record {
         left-rows = row-count-words left2 1024 (k .left-size ∙ l);
         right-rows = row-count-words right2 1024 (k .right-size ∙ r);
         numbers-size = ln;
-        assumed-rows = row-count-words (s .steps .assumed) 512 la;
-        set-rows = row-count-words sets 256 ls;
+        assumed-rows = row-count-words (t .assumed) 512 la;
+        set-rows = row-count-words (t .sets) 256 ls;
         few-flats = few-flats;
         few-steps = steps-count .0;
         few-worlds = zero-le;
-        known-rows = rw (k .flat-rows) (k .known-rows);
+        known-rows = rw (k .flat-rows, n, a) (k .known-rows);
         pair-number = zero-le;
         pair-world = zero-le;
         passed = record { worlds = λ v i a b. absurd (not-suc-le-zero a); implications = λ i a. absurd (not-suc-le-zero a) };

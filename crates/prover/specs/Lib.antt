@@ -4,4 +4,5 @@ pub mod InRange
 pub mod Calls
 pub mod Working
 pub mod Search
+pub mod Settling
 pub mod Demand

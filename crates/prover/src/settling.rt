@@ -12,9 +12,11 @@ use super::realization::Pair;
 use super::working;
 ghost use mathlib.Core.Path.{_≡_};
 ghost use Prim.Native.Nat.{_*_, _≤_};
-ghost use Rattle.ipl.specs.Search.{State, search};
-ghost use Rattle.prover.specs.State.{flatsOf, implicationsOf, stepsOf, worldsOf};
+ghost use Rattle.ipl.specs.Search.{State};
+ghost use Rattle.prover.specs.State.{stepsOf, worldsOf};
 ghost use Rattle.prover.specs.Calls.{goalNumber, totalAfter, Answer, AskedAs};
+ghost use Rattle.prover.specs.Search.{Ended};
+ghost use Rattle.prover.specs.Settling.{whole, Prepared, Concluding};
 
 fn total_after(total: u32, questions: usize) -> u32
     requires { ⌜ questions ≤ 513 * 258 ⌝ }
@@ -46,20 +48,23 @@ fn with_answer(s: Session, steps: Steps, worlds: Worlds, questions: usize, held:
     }
 }
 
-// The search, from the session's own rows in the working tables. The caller has seen that the goal is not refused.
-pub fn settle(s: Session, goal: u8) -> Answered
-    requires { ⌜ goalNumber s goal ≡ 0 ⌝ }
-    ensures { λ r. ⌜ AskedAs s goal (search (s .n) (flatsOf (s .flats)) (implicationsOf (s .implications)) goal (stepsOf (s .steps))) r ⌝ }
+// The search over the session's clauses, in the working tables.
+fn decide(
+    left: &mut [u64],
+    right: &mut [u64],
+    numbers: &mut [u8],
+    assumed: &mut [u64],
+    sets: &mut [u64],
+    s: Session,
+    goal: u8,
+) -> End
+    requires { ⌜ Prepared s goal (record { left = now left; right = now right; numbers = now numbers; assumed = now assumed; sets = now sets }) ⌝ }
+    ensures { λ r. ⌜ Ended (whole s goal) (record { left = now (left .exit); right = now (right .exit); numbers = now (numbers .exit); assumed = now (assumed .exit); sets = now (sets .exit) }) r ⌝ }
 {
     let flats = s.flats;
     let steps = s.steps;
     let x = s.implications;
-    let mut left = [0; 1024 * atoms::WORDS];
-    let mut right = [0; 1024 * atoms::WORDS];
-    working::write_known(&mut left, &mut right, flats, steps, x);
-    let mut numbers = steps.numbers;
-    let mut assumed = steps.assumed;
-    let mut sets = [0; 256 * atoms::WORDS];
+    working::write_known(left, right, flats, steps, x);
     let start = Progress {
         flats: flats.count,
         steps: steps.count,
@@ -70,48 +75,68 @@ pub fn settle(s: Session, goal: u8) -> Answered
             implication: 0,
         },
     };
-    match question::proceed(
-        &mut left,
-        &mut right,
-        &mut numbers,
-        &mut assumed,
-        &mut sets,
-        s.n,
-        goal,
-        x,
-        start,
-    ) {
+    question::proceed(left, right, numbers, assumed, sets, s.n, goal, x, start)
+}
+
+// The answer that the end of the search gives, with the tables' steps and worlds.
+fn conclude(s: Session, goal: u8, end: End, steps: Steps, worlds: Worlds) -> Answered
+    requires { ⌜ Concluding s goal steps worlds end ⌝ }
+    ensures { λ r. ⌜ AskedAs s goal (whole s goal) r ⌝ }
+{
+    let mut learned = steps;
+    let mut shown = worlds;
+    match end {
         End::Full(k) => Answered {
             verdict: Verdict::Refused(k, 0),
             session: s,
         },
         End::Valid(p) => {
-            let count = p.steps;
+            learned.count = p.steps;
+            shown.count = 0;
             let held = Held::Valid(goal);
-            let learned = Steps {
-                count,
-                numbers,
-                assumed,
-            };
-            let none = Worlds { count: 0, sets };
             Answered {
-                verdict: Verdict::Valid(count),
-                session: with_answer(s, learned, none, p.questions + 1, held),
+                verdict: Verdict::Valid(p.steps),
+                session: with_answer(s, learned, shown, p.questions + 1, held),
             }
         }
         End::Refuted(p) => {
-            let count = p.worlds;
+            learned.count = p.steps;
+            shown.count = p.worlds;
             let held = Held::Refuted(goal);
-            let learned = Steps {
-                count: p.steps,
-                numbers,
-                assumed,
-            };
-            let worlds = Worlds { count, sets };
             Answered {
-                verdict: Verdict::Refuted(count),
-                session: with_answer(s, learned, worlds, p.questions, held),
+                verdict: Verdict::Refuted(p.worlds),
+                session: with_answer(s, learned, shown, p.questions, held),
             }
         }
     }
+}
+
+// A question that is not refused, from the session's rows to its answer.
+pub fn settle(s: Session, goal: u8) -> Answered
+    requires { ⌜ goalNumber s goal ≡ 0 ⌝ }
+    ensures { λ r. ⌜ AskedAs s goal (whole s goal) r ⌝ }
+{
+    let steps = s.steps;
+    let worlds = s.worlds;
+    let mut left = [0; 1024 * atoms::WORDS];
+    let mut right = [0; 1024 * atoms::WORDS];
+    let mut numbers = steps.numbers;
+    let mut assumed = steps.assumed;
+    let mut sets = worlds.sets;
+    let end = decide(
+        &mut left,
+        &mut right,
+        &mut numbers,
+        &mut assumed,
+        &mut sets,
+        s,
+        goal,
+    );
+    let learned = Steps {
+        count: 0,
+        numbers,
+        assumed,
+    };
+    let shown = Worlds { count: 0, sets };
+    conclude(s, goal, end, learned, shown)
 }
