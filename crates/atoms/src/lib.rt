@@ -29,6 +29,13 @@ impl AtomSet {
         ensures { λ _. ⌜ num self < 2 ^ limit ⌝ }
     {}
 
+    // The set with this number.
+    pub fn numbered(x: u64) -> Self
+        ensures { λ r. ⌜ num r ≡ x ⌝ }
+    {
+        AtomSet { bits: x }
+    }
+
     // There is room for n atoms.
     pub fn fits(n: u8) -> bool
         ensures { λ r. ⌜ r ≡ leb n limit ⌝ }
