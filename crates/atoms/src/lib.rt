@@ -1,6 +1,6 @@
 // Sets of atoms. Atom i counts 2^i; every function is total, for any number and any set.
 ghost use mathlib.Core.Path.{_≡_};
-ghost use Prim.Native.Nat.{_^_, _<_};
+ghost use Prim.Native.Nat.{_/_, _%_, _^_, _<_};
 ghost use lib.Dec.{eqb, leb};
 ghost use Rattle.atoms.specs.Sets.{limit, has, union, minus, within, meets};
 ghost use Rattle.atoms.specs.Bytes.{digits, numberAt, putAt};
@@ -15,6 +15,12 @@ pub struct AtomSet {
     pub bits: u64,
 }
 
+// A set's number in base ten: the last digit, and the number without it.
+pub struct Tenth {
+    pub rest: AtomSet,
+    pub digit: u8,
+}
+
 impl AtomSet {
     pub const EMPTY: AtomSet = AtomSet { bits: 0 };
 
@@ -22,6 +28,13 @@ impl AtomSet {
     pub fn bounded(self)
         ensures { λ _. ⌜ num self < 2 ^ limit ⌝ }
     {}
+
+    // The set with this number.
+    pub fn numbered(x: u64) -> Self
+        ensures { λ r. ⌜ num r ≡ x ⌝ }
+    {
+        AtomSet { bits: x }
+    }
 
     // There is room for n atoms.
     pub fn fits(n: u8) -> bool
@@ -126,6 +139,18 @@ impl AtomSet {
         }
         AtomSet {
             bits: 1 << (63 - u64::leading_zeros(self.bits)),
+        }
+    }
+
+    // The number by ten, and what remains.
+    pub fn tenth(self) -> Tenth
+        ensures { λ r. ⌜ (num (r .rest) ≡ num self / 10) × (r .digit ≡ num self % 10) ⌝ }
+    {
+        Tenth {
+            rest: AtomSet {
+                bits: self.bits / 10,
+            },
+            digit: (self.bits % 10) as u8,
         }
     }
 }
