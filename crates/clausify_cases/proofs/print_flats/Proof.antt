@@ -1,0 +1,70 @@
+-- Counted up to the clauses held.
+use Prim.Native.Nat.{_-_, _≤_}
+use borrow.Author.Needs.{needs}
+use Rattle.clausify_cases.proofs.print_flats.Statement.{statement}
+use Rattle.clausify_cases.proofs.print_flats.Tie as tie
+
+abbrev Inv-loop : tie.InvT-loop
+Inv-loop t i₀ t4 t5 t6 i = i ≤ t .count
+
+abbrev μ-loop : tie.MeasureT-loop
+μ-loop t i₀ t4 t5 t6 i = t .count - i
+
+loop-holds : tie.Need-loop-holds Inv-loop μ-loop
+loop-holds c = search needs
+
+slice-aggregate-print-number : tie.Need-slice-aggregate-print-number Inv-loop μ-loop
+slice-aggregate-print-number c = search needs
+
+row-requires : tie.Need-row-requires Inv-loop μ-loop
+row-requires c κs = search needs
+
+print-number-requires : tie.Need-print-number-requires Inv-loop μ-loop
+print-number-requires c κs = search needs
+
+slice-aggregate-print-number-2 : tie.Need-slice-aggregate-print-number-2 Inv-loop μ-loop
+slice-aggregate-print-number-2 c = search needs
+
+row-requires-2 : tie.Need-row-requires-2 Inv-loop μ-loop
+row-requires-2 c κs = search needs
+
+print-number-requires-2 : tie.Need-print-number-requires-2 Inv-loop μ-loop
+print-number-requires-2 c κs = search needs
+
+slice-aggregate-print : tie.Need-slice-aggregate-print Inv-loop μ-loop
+slice-aggregate-print c = search needs
+
+print-requires : tie.Need-print-requires Inv-loop μ-loop
+print-requires c κs = search needs
+
+add-i : tie.Need-add-i Inv-loop μ-loop
+add-i c = search needs
+
+loop-less : tie.Need-loop-less Inv-loop μ-loop
+loop-less c = search needs
+
+loop-again : tie.Need-loop-again Inv-loop μ-loop
+loop-again c = search needs
+
+returns : tie.Need-returns Inv-loop μ-loop
+returns c = search needs
+
+pub print-flats-spec : {M : Type 1} → statement M
+print-flats-spec =
+    tie.close
+    (tie.spec
+    Inv-loop
+    μ-loop
+    loop-holds
+    slice-aggregate-print-number
+    row-requires
+    print-number-requires
+    slice-aggregate-print-number-2
+    row-requires-2
+    print-number-requires-2
+    slice-aggregate-print
+    print-requires
+    add-i
+    loop-less
+    loop-again
+    returns)
