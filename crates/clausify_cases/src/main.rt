@@ -1,5 +1,6 @@
 // Executed cases of the naming of parts: each line of `stdin` is a text, and what its session holds is printed, or its refusal.
 // `stdout` was worked out apart from this code.
+use atoms::AtomSet;
 use libc::STDIN_FILENO;
 use libc::STDOUT_FILENO;
 use prover::Flats;
@@ -14,25 +15,33 @@ fn print_number(text: &[u8], n: u64) {
     io::print_decimal(STDOUT_FILENO, n);
 }
 
-// The held clauses, sets as numbers.
+// Sets as numbers.
+fn print_flat(left: AtomSet, right: AtomSet) {
+    print_number(b"flat ", left.bits);
+    print_number(b" ", right.bits);
+    print(b"\n");
+}
+
 fn print_flats(t: Flats) {
     let mut i: usize = 0;
     while i < t.count {
-        print_number(b"flat ", atoms::row(&t.left, i).bits);
-        print_number(b" ", atoms::row(&t.right, i).bits);
-        print(b"\n");
+        print_flat(atoms::row(&t.left, i), atoms::row(&t.right, i));
         i += 1;
     }
+}
+
+fn print_implication(a: u8, b: u8, c: u8) {
+    print_number(b"implication ", a as u64);
+    print_number(b" ", b as u64);
+    print_number(b" ", c as u64);
+    print(b"\n");
 }
 
 fn print_implications(t: Implications) {
     let mut i: usize = 0;
     while i < 128 {
         if i < t.count {
-            print_number(b"implication ", t.a[i] as u64);
-            print_number(b" ", t.b[i] as u64);
-            print_number(b" ", t.c[i] as u64);
-            print(b"\n");
+            print_implication(t.a[i], t.b[i], t.c[i]);
         }
         i += 1;
     }

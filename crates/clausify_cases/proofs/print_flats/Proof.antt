@@ -5,37 +5,22 @@ use Rattle.clausify_cases.proofs.print_flats.Statement.{statement}
 use Rattle.clausify_cases.proofs.print_flats.Tie as tie
 
 abbrev Inv-loop : tie.InvT-loop
-Inv-loop t i₀ t4 t5 t6 i = i ≤ t .count
+Inv-loop t i₀ i = i ≤ t .count
 
 abbrev μ-loop : tie.MeasureT-loop
-μ-loop t i₀ t4 t5 t6 i = t .count - i
+μ-loop t i₀ i = t .count - i
 
 loop-holds : tie.Need-loop-holds Inv-loop μ-loop
 loop-holds c = search needs
 
-slice-aggregate-print-number : tie.Need-slice-aggregate-print-number Inv-loop μ-loop
-slice-aggregate-print-number c = search needs
-
 row-requires : tie.Need-row-requires Inv-loop μ-loop
 row-requires c κs = search needs
-
-print-number-requires : tie.Need-print-number-requires Inv-loop μ-loop
-print-number-requires c κs = search needs
-
-slice-aggregate-print-number-2 : tie.Need-slice-aggregate-print-number-2 Inv-loop μ-loop
-slice-aggregate-print-number-2 c = search needs
 
 row-requires-2 : tie.Need-row-requires-2 Inv-loop μ-loop
 row-requires-2 c κs = search needs
 
-print-number-requires-2 : tie.Need-print-number-requires-2 Inv-loop μ-loop
-print-number-requires-2 c κs = search needs
-
-slice-aggregate-print : tie.Need-slice-aggregate-print Inv-loop μ-loop
-slice-aggregate-print c = search needs
-
-print-requires : tie.Need-print-requires Inv-loop μ-loop
-print-requires c κs = search needs
+print-flat-requires : tie.Need-print-flat-requires Inv-loop μ-loop
+print-flat-requires c κs = search needs
 
 add-i : tie.Need-add-i Inv-loop μ-loop
 add-i c = search needs
@@ -56,14 +41,9 @@ print-flats-spec =
     Inv-loop
     μ-loop
     loop-holds
-    slice-aggregate-print-number
     row-requires
-    print-number-requires
-    slice-aggregate-print-number-2
     row-requires-2
-    print-number-requires-2
-    slice-aggregate-print
-    print-requires
+    print-flat-requires
     add-i
     loop-less
     loop-again
