@@ -1,0 +1,137 @@
+-- Laws of a text that is written piece by piece into a buffer.
+use mathlib.Core.List.{List, [], _∷_, _++_, append-nil, append-assoc}
+use mathlib.Core.Logic.{_⊎_, inl, inr}
+use mathlib.Core.Path.{_≡_, refl, sym, ap, _∙_, subst}
+use Prim.Native.Nat.{ℕ, _+_, _-_, _≤_, _<_}
+use native.Mathlib.Decide.{decLe}
+use native.Mathlib.Numerals.{add-one}
+use native.Mathlib.Omega.{arith}
+use lib.ListN.{length, take, drop, getD, set, length-append, length-set}
+use lib.Seq.{take-all, take-suc, take-suc-set, take-append-le, take-take}
+use borrow.Author.Tests.{le-leb}
+use Rattle.atoms.specs.Bytes.{putAt}
+use Rattle.ipl.specs.Lists.{tabulate}
+use Rattle.ipl.proofs.Lists.{tabulate-append}
+use Rattle.certificate.specs.Format.{each}
+use Rattle.report.specs.Output.{Begins, Appends, longest, room, Reported}
+
+-- ---- pieces
+
+pub same-text : {A B x y : List ℕ} {at r : ℕ} → A ≡ B → Appends A x at y r → Appends B x at y r
+same-text {A} {B} {x} {y} {at} {r} e p = subst (λ l. Appends l x at y r) e p
+
+pub nothing : (text : List ℕ) (at : ℕ) → Appends [] text at text at
+nothing text at = record { size = refl; follows = λ T e. rw (append-nil T) e }
+
+pub both : {A B x y z : List ℕ} {at m r : ℕ} → Appends A x at y m → Appends B y m z r → Appends (A ++ B) x at z r
+both {A} {B} {x} {y} {z} {at} {m} {r} p q =
+    record { size = q .size ∙ p .size; follows = λ T e. subst (λ l. Begins l z r) (append-assoc T A B) (q .follows (T ++ A) (p .follows T e)) }
+
+-- A full buffer has the beginning of whatever follows.
+pub full : (new text : List ℕ) (at : ℕ) → length text ≤ at → Appends new text at text at
+full new text at h = record { size = refl; follows = more }
+  where
+    more : (T : List ℕ) → Begins T text at → Begins (T ++ new) text at
+    more T e =
+        let inside : at ≤ length T = omega (arith, e .fills) in
+        record { fills = omega (arith, e .fills, length-append T new); same = e .same ∙ sym (take-append-le at T new inside) }
+
+pub one-more : (text : List ℕ) (at b : ℕ) → at < length text → Appends (b ∷ []) text at (set text at b) (at + 1)
+one-more text at b h = record { size = length-set text at b; follows = more }
+  where
+    more : (T : List ℕ) → Begins T text at → Begins (T ++ (b ∷ [])) (set text at b) (at + 1)
+    more T e =
+        let here : at ≡ length T = omega (arith, e .fills) in
+        let longer : length (T ++ (b ∷ [])) ≡ length T + 1 = length-append T (b ∷ []) in
+        record {
+          fills = omega (arith, longer, length-set text at b);
+          same =
+              ap (λ (n : ℕ). take n (set text at b)) (add-one at)
+              ∙ take-suc-set text at b h
+              ∙ ap (λ l. l ++ (b ∷ [])) (e .same ∙ take-all at T (omega arith))
+              ∙ sym (take-all (at + 1) (T ++ (b ∷ [])) (omega (arith, longer)));
+        }
+
+-- A word, byte by byte.
+pub next-byte : {x y z : List ℕ} {at m r : ℕ} (word : List ℕ) (i b : ℕ) → i < length word → b ≡ getD word i 0
+    → Appends (take i word) x at y m → Appends (b ∷ []) y m z r → Appends (take (i + 1) word) x at z r
+next-byte word i b h e p q =
+    same-text (sym (ap (λ (n : ℕ). take n word) (add-one i) ∙ take-suc word i 0 h ∙ ap (λ (v : ℕ). take i word ++ (v ∷ [])) (sym e))) (both p q)
+
+pub word-end : {x y : List ℕ} {at m : ℕ} (word : List ℕ) (i : ℕ) → length word ≤ i → Appends (take i word) x at y m → Appends word x at y m
+word-end word i h p = same-text (take-all i word h) p
+
+-- ---- lines
+
+each-append : {A : Type 0} (line : A → List ℕ) (l m : List A) → each line (l ++ m) ≡ each line l ++ each line m
+unfolding each
+each-append line [] m = refl
+each-append line (x ∷ l) m = ap (λ r. line x ++ r) (each-append line l m) ∙ sym (append-assoc (line x) (each line l) (each line m))
+
+module _ {A : Type 0} (line : A → List ℕ) (row : ℕ → A) where
+  pub next-line : {x y z : List ℕ} {at m r : ℕ} (i : ℕ) → Appends (each line (tabulate row i)) x at y m → Appends (line (row i)) y m z r
+      → Appends (each line (tabulate row (i + 1))) x at z r
+  unfolding tabulate each
+  next-line i p q =
+      same-text
+      (sym (ap (λ (n : ℕ). each line (tabulate row n)) (add-one i) ∙ each-append line (tabulate row i) (row i ∷ []) ∙ ap (λ l. each line (tabulate row i) ++ l) (append-nil (line (row i)))))
+      (both p q)
+
+  -- Once the buffer is full, the other lines are dropped.
+  pub lines-full : {x y : List ℕ} {at m : ℕ} (i n : ℕ) → i ≤ n → length y ≤ m → Appends (each line (tabulate row i)) x at y m
+      → Appends (each line (tabulate row n)) x at y m
+  lines-full {y = y} {m = m} i n h k p =
+      let rest = tabulate (λ j. row (i + j)) (n - i) in
+      same-text
+      (sym (each-append line (tabulate row i) rest)
+      ∙ ap (each line) (sym (tabulate-append row i (n - i)))
+      ∙ ap (λ (j : ℕ). each line (tabulate row j)) (omega arith))
+      (both p (full (each line rest) y m k))
+
+  pub lines-end : {x y : List ℕ} {at m : ℕ} (i n : ℕ) → i ≤ n → n ≤ i → Appends (each line (tabulate row i)) x at y m
+      → Appends (each line (tabulate row n)) x at y m
+  lines-end i n h k p = same-text (ap (λ (j : ℕ). each line (tabulate row j)) (omega arith)) p
+
+-- ---- the whole text
+
+pub begun : {T x y : List ℕ} {r : ℕ} → Appends T x 0 y r → Begins T y r
+begun {T} {x} p = p .follows [] (record { fills = omega arith; same = refl })
+
+module _ (T text output : List ℕ) (n : ℕ) (b : Begins T text n) (buffer : length text ≡ 16384) where
+  pub handed : (exit : List ℕ) (m r : ℕ) → n < length text → n ≤ length output → m ≡ n → r ≡ m → exit ≡ take m (take n text) ++ drop m output → Reported T output exit r
+  unfolding putAt longest
+  handed exit m r h k s e f =
+      let all : n ≡ length T = omega (arith, b .fills) in
+      let text-is : take n (take n text) ≡ T = take-take n n text (omega arith) ∙ b .same ∙ take-all n T (omega arith) in
+      record {
+        size = λ fits. e ∙ s ∙ all;
+        written = λ fits.
+            f
+            ∙ ap (λ (j : ℕ). take j (take n text) ++ drop j output) s
+            ∙ ap (λ l. l ++ drop n output) text-is
+            ∙ ap (λ (j : ℕ). T ++ drop j output) {x = n} {y = 0 + length T} (omega arith)
+            ∙ sym (rw (le-leb (0 + length T) (length output) (omega arith)) refl);
+        nothing = λ short. absurd (omega arith);
+        unchanged = λ short. absurd (omega arith);
+      }
+
+  -- The text is longer than the buffer, or the output is too short for it.
+  pub unhanded : (length text ≤ n) ⊎ (length output < n) → Reported T output output 0
+  unfolding longest
+  unhanded h =
+      record {
+        size = λ fits. absurd (short fits h);
+        written = λ fits. absurd (short fits h);
+        nothing = λ _. refl;
+        unchanged = λ _. refl;
+      }
+    where
+      short : length T ≤ room output → (length text ≤ n) ⊎ (length output < n) → ⊥
+      short fits (inl k) = omega (arith, b .fills)
+      short fits (inr k) = omega (arith, b .fills)
+
+pub reported-inside : {T entry exit : List ℕ} {r : ℕ} → Reported T entry exit r → r ≤ length entry
+reported-inside {T} {entry} p = elim (decLe (length T) (room entry)) [
+  | yes h ↦ omega (arith, p .size h)
+  | no h ↦ omega (arith, p .nothing (omega arith))
+]

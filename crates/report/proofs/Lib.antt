@@ -1,0 +1,5 @@
+-- Laws of the printed report, and the theorems.
+pub mod Appending
+pub mod Decimal
+pub mod Printed
+pub mod Cases

@@ -1,0 +1,39 @@
+-- The verdict, the figures, and a line for each step.
+use Rattle.report.specs.Text.{ascii}
+use Rattle.prover.specs.State.{stepRow}
+use Rattle.ipl.proofs.Lists.{tabulate-length}
+use Rattle.report.specs.Report.{validReport}
+use Rattle.report.proofs.Appending.{both}
+use borrow.Author.Needs.{needs}
+use Rattle.report.proofs.write_valid.Statement.{statement}
+use Rattle.report.proofs.write_valid.Tie as tie
+
+slice-aggregate-word : tie.Need-slice-aggregate-word
+slice-aggregate-word c = search needs
+
+word-requires : tie.Need-word-requires
+word-requires c κs = search needs
+
+figures-requires : tie.Need-figures-requires
+figures-requires c κs = search needs
+
+steps-requires : tie.Need-steps-requires
+steps-requires c κs = search needs
+
+same-length : tie.Need-same-length
+same-length c = search needs
+
+returns : tie.Need-returns
+unfolding validReport ascii
+returns c = let s = c .before .before .before .before .before .before .before .before .before .before .before .before .before .before .before .args .s .steps in rw (tabulate-length (stepRow s) (s .count)) (both (both (c .before .before .before .before .before .before .before .before .before .before .word .ensures) (c .before .before .before .before .before .before .figures .ensures)) (c .before .before .steps2 .ensures))
+
+pub write-valid-spec : {M : Type 1} → statement M
+write-valid-spec =
+    tie.close
+    (tie.spec
+    slice-aggregate-word
+    word-requires
+    figures-requires
+    steps-requires
+    same-length
+    returns)

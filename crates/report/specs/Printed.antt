@@ -1,0 +1,42 @@
+-- What is printed of a text, and the sheet of its verdict: from its bytes alone, through the definitions.
+use mathlib.Core.List.{List, []}
+use mathlib.Core.Option.{Option, none, some}
+use Prim.Native.Nat.{ℕ}
+use lib.ListN.{length}
+use Rattle.ipl.specs.Search.{Outcome, valid, refuted, refused, unfinished}
+use Rattle.ipl.specs.Book.{Book, answer}
+use Rattle.prover.specs.Calls.{totalAfter}
+use Rattle.syntax.specs.Judge as judgement
+use Rattle.syntax.specs.Judge.{Judgement, judge}
+use Rattle.clausify.specs.Naming.{textBook, goalOf}
+use Rattle.certificate.specs.Certificate.{Claim}
+use Rattle.certificate.specs.Format.{encode}
+use Rattle.certificate.specs.Written.{problemOfBook, claimOfVerdict}
+use Rattle.report.specs.Report.{textRefusal, validReport, refutedReport}
+
+-- By the outcome of the search over n atoms. The search ends (proofs/Printed.antt), so nothing is unfinished.
+unfoldable pub printedEnd : ℕ → Outcome → List ℕ
+printedEnd n (valid end) = validReport n (totalAfter 0 (end .questions)) (end .steps)
+printedEnd n (refuted end) = refutedReport n (totalAfter 0 (end .questions)) (length (end .steps)) (end .worlds)
+printedEnd n (refused number) = textRefusal number 0
+printedEnd n unfinished = []
+
+unfoldable pub printedAs : Judgement → List ℕ
+printedAs (judgement.refused number place) = textRefusal number place
+printedAs (judgement.accepted t) = printedEnd (textBook t .n) (answer (textBook t) (goalOf t))
+
+unfoldable pub printed : List ℕ → List ℕ
+printed s = printedAs (judge s)
+
+-- ---- the sheet of a text's verdict; no bytes where there is none
+
+unfoldable pub sheetBytes : Book → ℕ → Option Claim → List ℕ
+sheetBytes k g none = []
+sheetBytes k g (some c) = encode (problemOfBook k g) c
+
+unfoldable pub sheetAs : Judgement → List ℕ
+sheetAs (judgement.refused number place) = []
+sheetAs (judgement.accepted t) = sheetBytes (textBook t) (goalOf t) (claimOfVerdict (textBook t) (answer (textBook t) (goalOf t)))
+
+unfoldable pub sheet : List ℕ → List ℕ
+sheet s = sheetAs (judge s)
