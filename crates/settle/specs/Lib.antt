@@ -1,0 +1,2 @@
+-- What the program takes as the formula.
+pub mod Input

@@ -1,0 +1,3 @@
+-- Laws of the tasks.
+pub mod Sheet
+pub mod Tasks

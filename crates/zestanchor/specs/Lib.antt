@@ -1,0 +1,2 @@
+-- What each task of the exported function gives.
+pub mod Tasks
