@@ -18,4 +18,3 @@ pub mod Letters
 pub mod Judgement
 pub mod Reader
 pub mod Judge
-pub mod Cases
