@@ -34,7 +34,18 @@ passes-naming s t n e few count =
     subst (Passes n) (sym e) (count, subst (λ (m : ℕ). Unrefused (book.opened m) (calls (nodes t .table))) count (text-unrefused t few))
 
 pub ten-cases : All Holds cases
-unfolding ascii decimalWithin decimal figures stepLine worldLine refusal validReport refutedReport printedEnd printedAs printed sheetBytes sheetAs sheet judge deepAfter move fitting class.classOf class.tokens class.after reader.negated reader.shut reader.finish reader.readToken reader.result reader.reading sameLeaf leafAt withLeaf withCompound withTree nodes named naming.letterCount naming.atomsFrom naming.atomsOf naming.setOf naming.clause naming.partCalls naming.callsFrom calls atomCount naming.textBook naming.goalOf book.countInRange book.opened book.flatsFull book.flatRefusal book.implicationRefusal book.answer book.numberOf book.refusal book.stepsAfter book.taken book.next book.after fixed.clauseOf fixed.known fixed.firstAt fixed.firstUnrealized fixed.isNone fixed.dropOne fixed.dropFrom fixed.begin fixed.stepAt fixed.resolve fixed.look fixed.goOn fixed.turnWith fixed.turn fixed.run fixed.search counters least ask orElse atomOrBot setInRange flatInRange implicationInRange one satisfies closing closings beyond realizes learned all any bitAt has minus within meets limit digits format.each format.flatRow format.implicationRow format.stepRow format.worldRow format.claimRows format.refutes format.rowCount format.entryRow format.contents format.bodies format.encode claimOfVerdict
+unfolding ascii decimalWithin decimal figures stepLine worldLine refusal validReport refutedReport printedEnd printedAs printed
+    sheetBytes sheetAs sheet judge deepAfter move fitting class.classOf class.tokens class.after reader.negated reader.shut
+    reader.finish reader.readToken reader.result reader.reading sameLeaf leafAt withLeaf withCompound withTree nodes named
+    naming.letterCount naming.atomsFrom naming.atomsOf naming.setOf naming.clause naming.partCalls naming.callsFrom calls
+    atomCount naming.textBook naming.goalOf book.countInRange book.opened book.flatsFull book.flatRefusal
+    book.implicationRefusal book.answer book.numberOf book.refusal book.stepsAfter book.taken book.next book.after
+    fixed.clauseOf fixed.known fixed.firstAt fixed.firstUnrealized fixed.isNone fixed.dropOne fixed.dropFrom fixed.begin
+    fixed.stepAt fixed.resolve fixed.look fixed.goOn fixed.turnWith fixed.turn fixed.run fixed.search counters least ask
+    orElse atomOrBot setInRange flatInRange implicationInRange one satisfies closing closings beyond realizes learned all
+    any bitAt has minus within meets limit digits format.each format.flatRow format.implicationRow format.stepRow
+    format.worldRow format.claimRows format.refutes format.rowCount format.entryRow format.contents format.bodies
+    format.encode claimOfVerdict
 ten-cases =
     let t = reader.negated 63 (letter 15) in
     let size : named (nodes t .table) ≡ 64 = refl in

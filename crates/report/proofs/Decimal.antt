@@ -25,11 +25,11 @@ decimal-enough (suc m) (suc n) x h k = go (eqb (x / 10) 0) refl (decimal-enough 
         ap (λ l. l ++ (lastDigit x ∷ [])) (same (omega arith) (omega arith))
 
 -- One digit; and the last digit after the others.
-one-digit : (x : ℕ) → eqb (x / 10) 0 ≡ true → decimal x ≡ lastDigit x ∷ []
+pub one-digit : (x : ℕ) → eqb (x / 10) 0 ≡ true → decimal x ≡ lastDigit x ∷ []
 unfolding decimal decimalWithin
 one-digit x e = rw e refl
 
-last-digit : (x : ℕ) → eqb (x / 10) 0 ≡ false → decimal x ≡ decimal (x / 10) ++ (lastDigit x ∷ [])
+pub last-digit : (x : ℕ) → eqb (x / 10) 0 ≡ false → decimal x ≡ decimal (x / 10) ++ (lastDigit x ∷ [])
 unfolding decimal decimalWithin
 last-digit x e =
     let more : (x / 10 ≡ 0) → ⊥ = eqb-false (x / 10) 0 e in

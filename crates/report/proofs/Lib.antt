@@ -2,4 +2,5 @@
 pub mod Appending
 pub mod Decimal
 pub mod Printed
+pub mod Fitting
 pub mod Cases

@@ -15,7 +15,7 @@ pub record Appends (new before : List ℕ) (at : ℕ) (after : List ℕ) (r : �
   pub size : length after ≡ length before
   pub follows : (T : List ℕ) → Begins T before at → Begins (T ++ new) after r
 
--- The longest report that is written. No session in range has a longer one: 48 + 512 × 30 bytes.
+-- The longest report that is written. That of a text is never longer (proofs/Fitting.antt).
 unfoldable pub longest : ℕ
 longest = 16383
 

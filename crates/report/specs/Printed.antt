@@ -14,7 +14,7 @@ use Rattle.certificate.specs.Format.{encode}
 use Rattle.certificate.specs.Written.{problemOfBook, claimOfVerdict}
 use Rattle.report.specs.Report.{textRefusal, validReport, refutedReport}
 
--- By the outcome of the search over n atoms. The search ends (proofs/Printed.antt), so nothing is unfinished.
+-- By the outcome of the search over n atoms. The search always ends (`search-ends` of `ipl`), so the last line is never met.
 unfoldable pub printedEnd : ℕ → Outcome → List ℕ
 printedEnd n (valid end) = validReport n (totalAfter 0 (end .questions)) (end .steps)
 printedEnd n (refuted end) = refutedReport n (totalAfter 0 (end .questions)) (length (end .steps)) (end .worlds)

@@ -19,6 +19,6 @@ unfoldable pub decimalWithin : ℕ → ℕ → List ℕ
 decimalWithin zero x = []
 decimalWithin (suc most) x = cond (eqb (x / 10) 0) [] (decimalWithin most (x / 10)) ++ (lastDigit x ∷ [])
 
--- A number in base ten. It has fewer digits than its successor counts.
+-- A number in base ten; x never has more than suc x digits.
 unfoldable pub decimal : ℕ → List ℕ
 decimal x = decimalWithin (suc x) x

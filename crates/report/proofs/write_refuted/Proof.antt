@@ -25,7 +25,12 @@ same-length c = search needs
 
 returns : tie.Need-returns
 unfolding refutedReport ascii
-returns c = let s = c .before .before .before .before .before .before .before .before .before .before .before .before .before .before .before .args .s .steps in rw (tabulate-length (stepRow s) (s .count)) (both (both (c .before .before .before .before .before .before .before .before .before .before .word .ensures) (c .before .before .before .before .before .before .figures .ensures)) (c .before .before .worlds2 .ensures))
+returns c =
+    let last = c .before .before in
+    let second = last .before .before .before .before in
+    let first = second .before .before .before .before in
+    let s = first .before .before .before .before .before .args .s .steps in
+    rw (tabulate-length (stepRow s) (s .count)) (both (both (first .word .ensures) (second .figures .ensures)) (last .worlds2 .ensures))
 
 pub write-refuted-spec : {M : Type 1} → statement M
 write-refuted-spec =

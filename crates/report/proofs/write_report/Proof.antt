@@ -29,19 +29,25 @@ same-length : tie.Need-same-length
 same-length c = search needs
 
 returns : tie.Need-returns
-returns c = same-text (sym (ap (λ (v : Verdict). reportBy v (c .before .before .before .before .before .before .before .args .settled .session)) (c .before .before .before .before .enum-told .given .1))) (c .before .before .write-valid .ensures)
+returns c =
+    let s = c .before .before .before .before .before .before .before .args .settled .session in
+    same-text (sym (ap (λ (v : Verdict). reportBy v s) (c .before .before .before .before .enum-told .given .1))) (c .before .before .write-valid .ensures)
 
 same-length-2 : tie.Need-same-length-2
 same-length-2 c = search needs
 
 returns-2 : tie.Need-returns-2
-returns-2 c = same-text (sym (ap (λ (v : Verdict). reportBy v (c .before .before .before .before .before .before .before .args .settled .session)) (c .before .before .before .before .enum-told2 .given .1))) (c .before .before .write-refuted .ensures)
+returns-2 c =
+    let s = c .before .before .before .before .before .before .before .args .settled .session in
+    same-text (sym (ap (λ (v : Verdict). reportBy v s) (c .before .before .before .before .enum-told2 .given .1))) (c .before .before .write-refuted .ensures)
 
 same-length-3 : tie.Need-same-length-3
 same-length-3 c = search needs
 
 returns-3 : tie.Need-returns-3
-returns-3 c = same-text (sym (ap (λ (v : Verdict). reportBy v (c .before .before .before .before .before .before .before .before .args .settled .session)) (c .before .before .before .before .before .verdict .given .1))) (c .before .before .refusal .ensures)
+returns-3 c =
+    let s = c .before .before .before .before .before .before .before .before .args .settled .session in
+    same-text (sym (ap (λ (v : Verdict). reportBy v s) (c .before .before .before .before .before .verdict .given .1))) (c .before .before .refusal .ensures)
 
 pub write-report-spec : {M : Type 1} → statement M
 write-report-spec =

@@ -35,7 +35,12 @@ same-length c = search needs
 
 returns : tie.Need-returns
 unfolding figures ascii
-returns c = both (both (both (c .before .before .before .before .before .before .before .before .before .before .before .before .before .before .before .before .before .figure .ensures) (c .before .before .before .before .before .before .before .before .before .before .before .before .figure2 .ensures)) (c .before .before .before .before .before .before .before .figure3 .ensures)) (c .before .before .word .ensures)
+returns c =
+    let last = c .before .before in
+    let third = last .before .before .before .before .before in
+    let second = third .before .before .before .before .before in
+    let first = second .before .before .before .before .before in
+    both (both (both (first .figure .ensures) (second .figure2 .ensures)) (third .figure3 .ensures)) (last .word .ensures)
 
 pub figures-spec : {M : Type 1} → statement M
 figures-spec =

@@ -29,7 +29,11 @@ same-length c = search needs
 
 returns : tie.Need-returns
 unfolding refusal ascii
-returns c = rw (c .before .before .before .before .before .before .before .before .before .before .if1 .taken) (both (both (c .before .before .before .before .before .before .before .before .before .before .before .before .before .figure .ensures) (c .before .before .before .before .before .before .before .figure2 .ensures)) (c .before .before .word .ensures))
+returns c =
+    let last = c .before .before in
+    let second = last .before .before .before .before .before in
+    let test = second .before .before .before in
+    rw (test .if1 .taken) (both (both (test .before .before .before .figure .ensures) (second .figure2 .ensures)) (last .word .ensures))
 
 slice-aggregate-word-2 : tie.Need-slice-aggregate-word-2
 slice-aggregate-word-2 c = search needs
@@ -42,7 +46,10 @@ same-length-2 c = search needs
 
 returns-2 : tie.Need-returns-2
 unfolding refusal ascii
-returns-2 c = rw (c .before .before .before .before .before .if1 .left) (both (c .before .before .before .before .before .before .before .before .figure .ensures) (c .before .before .word2 .ensures))
+returns-2 c =
+    let last = c .before .before in
+    let test = last .before .before .before in
+    rw (test .if1 .left) (both (test .before .before .before .figure .ensures) (last .word2 .ensures))
 
 pub refusal-spec : {M : Type 1} → statement M
 refusal-spec =

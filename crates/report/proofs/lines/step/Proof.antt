@@ -29,7 +29,10 @@ same-length c = search needs
 
 returns : tie.Need-returns
 unfolding stepLine ascii
-returns c = both (both (c .before .before .before .before .before .before .before .before .before .before .before .before .figure .ensures) (c .before .before .before .before .before .before .before .labelled .ensures)) (c .before .before .word .ensures)
+returns c =
+    let last = c .before .before in
+    let second = last .before .before .before .before .before in
+    both (both (second .before .before .before .before .before .figure .ensures) (second .labelled .ensures)) (last .word .ensures)
 
 pub step-spec : {M : Type 1} → statement M
 step-spec =

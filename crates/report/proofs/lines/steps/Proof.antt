@@ -44,7 +44,12 @@ loop-less : tie.Need-loop-less Inv-loop μ-loop
 loop-less c = omega arith
 
 loop-again : tie.Need-loop-again Inv-loop μ-loop
-loop-again c = let l = c .before .before .before .before .before .before .before .before .before .before .before .before .before .before in (omega arith, next-line stepLine (stepRow (c .before .before .before .before .before .before .before .before .before .before .before .before .before .before .before .before .args .t3)) (l .loop .i) (l .loop .inv .1) (same-text (ap₂ (λ (n a : ℕ). stepLine (record { number = n; assumed = a })) (c .before .before .before .before .before .before .before .byte-at .ensures) (c .before .before .before .row .ensures)) (c .before .before .step .ensures)))
+loop-again c =
+    let l = c .before .before .before .before .before .before .before .before .before .before .before .before .before .before in (
+      omega arith,
+      next-line stepLine (stepRow (l .before .before .args .t3)) (l .loop .i) (l .loop .inv .1)
+          (same-text (ap₂ (λ (n a : ℕ). stepLine (record { number = n; assumed = a })) (c .before .before .before .before .before .before .before .byte-at .ensures) (c .before .before .before .row .ensures)) (c .before .before .step .ensures)),
+    )
 
 same-length-2 : tie.Need-same-length-2 Inv-loop μ-loop
 same-length-2 c = c .before .loop .inv .1 .size

@@ -41,7 +41,12 @@ loop-less : tie.Need-loop-less Inv-loop μ-loop
 loop-less c = omega arith
 
 loop-again : tie.Need-loop-again Inv-loop μ-loop
-loop-again c = let l = c .before .before .before .before .before .before .before .before .before .before in (omega arith, next-line worldLine (rowOf (c .before .before .before .before .before .before .before .before .before .before .before .before .args .t3 .sets)) (l .loop .i) (l .loop .inv .1) (same-text (ap worldLine (c .before .before .before .row .ensures)) (c .before .before .world .ensures)))
+loop-again c =
+    let l = c .before .before .before .before .before .before .before .before .before .before in (
+      omega arith,
+      next-line worldLine (rowOf (l .before .before .args .t3 .sets)) (l .loop .i) (l .loop .inv .1)
+          (same-text (ap worldLine (c .before .before .before .row .ensures)) (c .before .before .world .ensures)),
+    )
 
 same-length-2 : tie.Need-same-length-2 Inv-loop μ-loop
 same-length-2 c = c .before .loop .inv .1 .size
