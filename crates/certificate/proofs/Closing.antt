@@ -1,7 +1,6 @@
 -- The closing clause of an implication, as the code looks for it.
 use mathlib.Core.Bool.{true, false}
 use mathlib.Core.List.{List}
-use mathlib.Core.Logic.{inl, inr}
 use mathlib.Core.Path.{_≡_, refl, sym, ap₂, _∙_, subst}
 use Prim.Native.Nat.{ℕ, _+_}
 use native.Mathlib.Omega.{arith}
@@ -11,11 +10,10 @@ use borrow.Author.Tests.{eq-eqb, ne-eqb}
 use Rattle.atoms.specs.Sets.{limit}
 use Rattle.atoms.specs.Words.{singleOrEmpty}
 use Rattle.atoms.specs.Bytes.{numberAt}
-use Rattle.atoms.proofs.Machine.{limit-small, single-bits, single-none}
 use Rattle.ipl.specs.Lists.{any}
-use Rattle.ipl.specs.Clause.{bot, one, Flat, sameFlat, closing, closed}
+use Rattle.ipl.specs.Clause.{bot, Flat, sameFlat, closing, closed}
 use Rattle.ipl.specs.Range.{implicationInRange}
-use Rattle.ipl.proofs.Range.{AtomOrBot, implication-below}
+use Rattle.ipl.proofs.Range.{AtomOrBot, implication-below, single-one}
 use Rattle.certificate.specs.Format.{implicationStart}
 use Rattle.certificate.specs.Layout.{flatFrom, implicationFrom, problemIn}
 use Rattle.certificate.specs.Checked.{Ranged, EachWithin, problemBy, claimBy}
@@ -31,12 +29,6 @@ module _ (s : List ℕ) (at L R l : ℕ) (el : l ≡ numberAt s at 8) where
   unfolding sameFlat flatFrom
   flat-same e r er = rw (← el, ← er, e) refl
 
--- The set of an atom or ⊥, as the code makes it.
-pub one-is : (x : ℕ) → AtomOrBot limit x → singleOrEmpty x ≡ one x
-unfolding one
-one-is x (inl h) = single-bits x h ∙ sym (rw (ne-eqb x bot (λ e. omega (arith, limit-small))) refl)
-one-is x (inr e) = single-none x (omega (arith, limit-small)) ∙ sym (rw (eq-eqb x bot e) refl)
-
 module _ (s : List ℕ) (F : List Flat) (at b : ℕ) (eb : b ≡ getD s (at + 1) 0) where
   pub closed-bottom : b ≡ bot → true ≡ closed F (implicationFrom s at)
   unfolding closed implicationFrom
@@ -49,7 +41,7 @@ module _ (s : List ℕ) (F : List Flat) (at b : ℕ) (eb : b ≡ getD s (at + 1)
       let below = implication-below limit (implicationFrom s at) t in
       rw (← eb, ← ec, ne-eqb b bot f)
       (ap₂ (λ (x y : ℕ). any (sameFlat (record { left = x; right = y })) F)
-      (el ∙ one-is b (subst (AtomOrBot limit) (sym eb) (below .b))) (er ∙ one-is c (subst (AtomOrBot limit) (sym ec) (below .c))))
+      (el ∙ single-one limit b (omega arith) (subst (AtomOrBot limit) (sym eb) (below .b))) (er ∙ single-one limit c (omega arith) (subst (AtomOrBot limit) (sym ec) (below .c))))
 
 -- The implications of bytes that are in range.
 pub each-within : (s : List ℕ) (k : Contents) → Ranged s k → EachWithin s (k .flats) (implicationStart (k .flats)) (k .implications)

@@ -1,6 +1,6 @@
 -- What keeps the layout is what would be written: bytes that are laid out are those of the problem and the claim read from them.
 use mathlib.Core.Bool.{Bool, true, false}
-use mathlib.Core.List.{List, [], _∷_, _++_, append-assoc, append-nil}
+use mathlib.Core.List.{List, [], _∷_, _++_, append-assoc}
 use mathlib.Core.Logic.{_↔_}
 use mathlib.Core.Path.{_≡_, refl, sym, ap, ap₂, _∙_, subst}
 use Prim.Native.Nat.{ℕ, zero, suc, _+_, _*_, _/_, _%_, _^_, _≤_, _<_}
@@ -11,13 +11,13 @@ use lib.ListN.{length, getD, take, drop, length-drop, take-append-drop}
 use lib.Seq.{drop-cons, drop-drop, take-add, take-all, length-take-le}
 use Rattle.atoms.specs.Bytes.{value, digits, numberAt}
 use Rattle.atoms.proofs.Truth.{true-T}
-use Rattle.ipl.proofs.Lists.{All-left, All-right}
+use Rattle.ipl.specs.Lists.{tabulate}
+use Rattle.ipl.proofs.Lists.{All-left, All-right, tabulate-length}
 use Rattle.certificate.specs.Format.{each, flatRow, implicationRow, stepRow, worldRow, claimRows, refutes, rowCount, claimKind, claimWidth, implicationStart, goalStart, claimStart, entryRow, contents, bodies, encode}
-use Rattle.certificate.specs.Layout.{rows, flatFrom, implicationFrom, stepFrom, worldFrom, refuting, flatCount, implicationCount, claimCount, laidOut, problemIn, claimIn, problemOf, claimOf}
+use Rattle.certificate.specs.Layout.{flatFrom, implicationFrom, stepFrom, worldFrom, refuting, flatCount, implicationCount, claimCount, laidOut, problemIn, claimIn, problemOf, claimOf}
 use Rattle.certificate.specs.Accepted.{Bytes, Addressed, Encoded}
-use Rattle.certificate.proofs.Rows.{rows-length}
 use Rattle.certificate.proofs.Entries.{entry-parts, ClaimParts, claim-parts, LaidParts, laid-parts}
-use Rattle.certificate.proofs.Encoding.{encode-laid}
+use Rattle.certificate.proofs.Encoding.{encode-laid, each-snoc}
 
 -- ---- numbers
 
@@ -87,18 +87,13 @@ module _ (s : List ℕ) (bytes : Bytes s) where
   unfolding worldRow
   world-cut at h = digits-number at 8 h
 
-  each-snoc : {A : Type 0} (row : A → List ℕ) (l : List A) (x : A) → each row (l ++ (x ∷ [])) ≡ each row l ++ row x
-  unfolding each
-  each-snoc row [] x = append-nil (row x)
-  each-snoc row (y ∷ l) x = ap (λ r. row y ++ r) (each-snoc row l x) ∙ sym (append-assoc (row y) (each row l) (row x))
-
   -- A body of whole rows.
   rows-cut : {A : Type 0} (row : A → List ℕ) (from : ℕ → A) (width : ℕ) → ((at : ℕ) → at + width ≤ length s → row (from at) ≡ take width (drop at s))
-      → (start count : ℕ) → start + width * count ≤ length s → each row (rows (λ k. from (start + width * k)) count) ≡ take (width * count) (drop start s)
-  unfolding rows each
+      → (start count : ℕ) → start + width * count ≤ length s → each row (tabulate (λ k. from (start + width * k)) count) ≡ take (width * count) (drop start s)
+  unfolding tabulate each
   rows-cut row from width one start zero h = sym (ap (λ (n : ℕ). take n (drop start s)) {x = width * 0} {y = 0} (omega arith))
   rows-cut row from width one start (suc k) h =
-      each-snoc row (rows (λ j. from (start + width * j)) k) (from (start + width * k))
+      each-snoc row (tabulate (λ j. from (start + width * j)) k) (from (start + width * k))
       ∙ ap₂ (λ (x y : List ℕ). x ++ y) (rows-cut row from width one start k (omega arith)) (one (start + width * k) (omega arith) ∙ ap (take width) (sym (drop-drop (width * k) start s)))
       ∙ sym (take-add (width * k) width (drop start s))
       ∙ ap (λ (n : ℕ). take n (drop start s)) {x = width * k + width} {y = width * suc k} (omega arith)
@@ -184,16 +179,16 @@ module _ (s : List ℕ) (bytes : Bytes s) where
 
     count-is : (at : ℕ) (r : Bool) (R : ℕ) → rowCount (claimIn s at r R) ≡ R
     unfolding rowCount claimIn
-    count-is at true R = rows-length (λ k. worldFrom s (at + 8 * k)) R
-    count-is at false R = rows-length (λ k. stepFrom s (at + 9 * k)) R
+    count-is at true R = tabulate-length (λ k. worldFrom s (at + 8 * k)) R
+    count-is at false R = tabulate-length (λ k. stepFrom s (at + 9 * k)) R
 
     flats-are : length (problemOf s .flats) ≡ F
     unfolding problemOf problemIn
-    flats-are = rows-length (λ k. flatFrom s (38 + 16 * k)) F
+    flats-are = tabulate-length (λ k. flatFrom s (38 + 16 * k)) F
 
     implications-are : length (problemOf s .implications) ≡ X
     unfolding problemOf problemIn
-    implications-are = rows-length (λ k. implicationFrom s (implicationStart F + 3 * k)) X
+    implications-are = tabulate-length (λ k. implicationFrom s (implicationStart F + 3 * k)) X
 
     claim-refutes : refutes (claimOf s) ≡ refuting s
     unfolding claimOf

@@ -11,15 +11,14 @@ use lib.Seq.{drop-append-add, drop-drop, take-at, drop-at, getD-drop, ext-getD}
 use Rattle.atoms.specs.Bytes.{value, digits, numberAt}
 use Rattle.atoms.proofs.Truth.{true-T}
 use Rattle.atoms.proofs.Bytes.{length-digits, value-digits}
-use Rattle.ipl.specs.Lists.{All}
+use Rattle.ipl.specs.Lists.{All, tabulate}
 use Rattle.ipl.specs.Clause.{Flat, Implication}
 use Rattle.ipl.specs.Search.{Step}
-use Rattle.ipl.proofs.Lists.{All-at}
+use Rattle.ipl.proofs.Lists.{All-at, tabulate-length, tabulate-at}
 use Rattle.certificate.specs.Certificate.{Problem, Claim, valid, refuted}
 use Rattle.certificate.specs.Format.{each, flatRow, implicationRow, stepRow, worldRow, claimRows, refutes, rowCount, claimKind, claimWidth, claimLeast, implicationStart, goalStart, claimStart, entryRow, contents, bodies, encode, encodedLength}
-use Rattle.certificate.specs.Layout.{rows, flatFrom, implicationFrom, stepFrom, worldFrom, rowsIn, entryRight, refuting, flatCount, implicationCount, claimCount, claimLaid, laidOut, problemIn, claimIn, problemOf, claimOf}
+use Rattle.certificate.specs.Layout.{flatFrom, implicationFrom, stepFrom, worldFrom, rowsIn, entryRight, refuting, flatCount, implicationCount, claimCount, claimLaid, laidOut, problemIn, claimIn, problemOf, claimOf}
 use Rattle.certificate.specs.Accepted.{Addressed}
-use Rattle.certificate.proofs.Rows.{rows-length, rows-at}
 use Rattle.certificate.proofs.Entries.{entry-true, claim-true, laid-true, width-positive}
 
 -- ---- lengths
@@ -39,6 +38,16 @@ length-step s = ap suc (length-digits 8 (s .assumed))
 pub length-world : (w : ℕ) → length (worldRow w) ≡ 8
 unfolding worldRow
 length-world w = length-digits 8 w
+
+-- Bodies one after the other.
+pub each-append : {A : Type 0} (row : A → List ℕ) (l m : List A) → each row (l ++ m) ≡ each row l ++ each row m
+unfolding each
+each-append row [] m = refl
+each-append row (x ∷ l) m = ap (λ r. row x ++ r) (each-append row l m) ∙ sym (append-assoc (row x) (each row l) (each row m))
+
+pub each-snoc : {A : Type 0} (row : A → List ℕ) (l : List A) (x : A) → each row (l ++ (x ∷ [])) ≡ each row l ++ row x
+unfolding each
+each-snoc row l x = each-append row l (x ∷ []) ∙ ap (λ r. each row l ++ r) (append-nil (row x))
 
 module _ {A : Type 0} (row : A → List ℕ) (width : ℕ) (wide : (x : A) → length (row x) ≡ width) where
   pub length-each : (l : List A) → length (each row l) ≡ width * length l
@@ -60,11 +69,11 @@ module _ {A : Type 0} (row : A → List ℕ) (width : ℕ) (wide : (x : A) → l
 
   -- A body is read back row by row.
   rows-read : (P : A → Type 0) (s : List ℕ) (from : ℕ → A) → ((x : A) (at : ℕ) (more : List ℕ) → P x → drop at s ≡ row x ++ more → from at ≡ x)
-      → (start : ℕ) (l : List A) (rest : List ℕ) (d : A) → All P l → drop start s ≡ each row l ++ rest → rows (λ k. from (start + width * k)) (length l) ≡ l
+      → (start : ℕ) (l : List A) (rest : List ℕ) (d : A) → All P l → drop start s ≡ each row l ++ rest → tabulate (λ k. from (start + width * k)) (length l) ≡ l
   rows-read P s from read start l rest d h e =
-      ext-getD d (rows (λ k. from (start + width * k)) (length l)) l (rows-length (λ k. from (start + width * k)) (length l)) (λ i b.
-      let in-list : i < length l = omega (arith, rows-length (λ k. from (start + width * k)) (length l)) in
-      rows-at (λ k. from (start + width * k)) (length l) i d in-list
+      ext-getD d (tabulate (λ k. from (start + width * k)) (length l)) l (tabulate-length (λ k. from (start + width * k)) (length l)) (λ i b.
+      let in-list : i < length l = omega (arith, tabulate-length (λ k. from (start + width * k)) (length l)) in
+      tabulate-at (λ k. from (start + width * k)) d (length l) i in-list
       ∙ read (getD l i d) (start + width * i) (each row (drop (suc i) l) ++ rest) (All-at P l d h i in-list)
       (sym (drop-drop (width * i) start s) ∙ ap (drop (width * i)) e ∙ drop-each l rest i d in-list))
 
@@ -272,10 +281,10 @@ module _ (p : Problem) (c : Claim) where
         units [] = tt
         units (i ∷ l) = (tt, units l)
 
-        whole : (s : List ℕ) → rows (λ k. flatFrom s (38 + 16 * k)) F ≡ p .flats → rows (λ k. implicationFrom s (implicationStart F + 3 * k)) X ≡ p .implications
+        whole : (s : List ℕ) → tabulate (λ k. flatFrom s (38 + 16 * k)) F ≡ p .flats → tabulate (λ k. implicationFrom s (implicationStart F + 3 * k)) X ≡ p .implications
             → getD s 37 0 ≡ p .n → getD s (goalStart F X) 0 ≡ p .goal → problemIn s F X ≡ p
         whole s ef ei en eg =
-            ap₂ {C = Problem} (λ (n g : ℕ). record { n = n; flats = rows (λ k. flatFrom s (38 + 16 * k)) F; implications = rows (λ k. implicationFrom s (implicationStart F + 3 * k)) X; goal = g }) en eg
+            ap₂ {C = Problem} (λ (n g : ℕ). record { n = n; flats = tabulate (λ k. flatFrom s (38 + 16 * k)) F; implications = tabulate (λ k. implicationFrom s (implicationStart F + 3 * k)) X; goal = g }) en eg
             ∙ ap₂ {C = Problem} (λ (f : List Flat) (i : List Implication). record { n = p .n; flats = f; implications = i; goal = p .goal }) ef ei
 
     claim-read : (d : Claim) → claimRows c ≡ claimRows d → ClaimFits d → claimIn (encode p c) (claimStart F X) (refutes d) (rowCount d) ≡ d

@@ -19,7 +19,7 @@ use Rattle.certificate.specs.Layout.{flatFrom, stepFrom, laidOut, proble
 use Rattle.certificate.specs.Judge.{claimInRange, inRange, allClosed, wrongPlace, judgeClaim, judgeRead, judge}
 use Rattle.certificate.specs.Checked.{problemBy, claimBy, stepsBy, ContentsRead, Ranged, ColumnLoaded, StepsReady, WorldsReady}
 use Rattle.certificate.specs.declared.Contents.{Contents}
-use Rattle.certificate.proofs.Rows.{rows-length}
+use Rattle.ipl.proofs.Lists.{tabulate-length}
 use Rattle.certificate.proofs.InRange.{range-parts}
 use Rattle.certificate.proofs.Tables.{columns-loaded}
 
@@ -52,7 +52,7 @@ module _ (p : Problem) (c : Claim) where
 module _ (s : List ℕ) (k : Contents) (ranged : Ranged s k) where
   flats-few : k .flats ≤ flatTable
   unfolding problemIn
-  flats-few = omega (arith, rows-length (λ j. flatFrom s (38 + 16 * j)) (k .flats), range-parts (problemBy s k) (claimBy s k) (ranged .ranged) .flat-count)
+  flats-few = omega (arith, tabulate-length (λ j. flatFrom s (38 + 16 * j)) (k .flats), range-parts (problemBy s k) (claimBy s k) (ranged .ranged) .flat-count)
 
   -- A table of this many words has a row for each flat clause.
   pub flats-fit : (t : List ℕ) (words : ℕ) → length t ≡ words → flatTable ≤ words → k .flats ≤ rowCount t
@@ -73,7 +73,7 @@ module _ (s : List ℕ) (k : Contents) (ranged : Ranged s k) where
         (range-parts (problemBy s k) (claimBy s k) (ranged .ranged) .claim) in
         omega (
           arith,
-          rows-length (λ j. stepFrom s (claimStart (k .flats) (k .implications) + 9 * j)) (k .rows),
+          tabulate-length (λ j. stepFrom s (claimStart (k .flats) (k .implications) + 9 * j)) (k .rows),
           leb→le (length (stepsBy s k)) stepTable (T-left (leb (length (stepsBy s k)) stepTable) (all (stepInRange (getD s 37 0) (length (problemBy s k .implications))) (stepsBy s k)) t),
         )
 

@@ -2,7 +2,7 @@
 use mathlib.Core.Bool.{Bool, true, false}
 use mathlib.Core.List.{List, [], _∷_, _++_, append-nil}
 use mathlib.Core.Path.{_≡_, refl, sym, ap, ap₂, _∙_, subst}
-use Prim.Native.Nat.{ℕ, suc, _+_, _*_, _≤_, _<_, min}
+use Prim.Native.Nat.{ℕ, _+_, _*_, _≤_, _<_, min}
 use native.Mathlib.Numerals.{add-one}
 use native.Mathlib.Omega.{arith}
 use borrow.Author.Count.{below-more}
@@ -19,20 +19,18 @@ use Rattle.ipl.specs.Clause.{Flat, one, learned}
 use Rattle.ipl.specs.Range.{stepTable, setInRange, implicationInRange}
 use Rattle.ipl.specs.Question.{ask}
 use Rattle.ipl.specs.Search.{Step, implicationAt, clauseOf, known, isNone, stepInRange}
-use Rattle.ipl.proofs.Lists.{all-All, All-at}
-use Rattle.ipl.proofs.Range.{AtomOrBot, ImplicationBelow, implication-below}
+use Rattle.ipl.proofs.Lists.{all-All, All-at, tabulate-length, tabulate-at}
+use Rattle.ipl.proofs.Range.{AtomOrBot, ImplicationBelow, implication-below, single-one}
 use Rattle.ipl.proofs.Steps.{known-snoc}
 use Rattle.sat.specs.Table.{clauses}
 use Rattle.certificate.specs.Format.{implicationStart, goalStart, claimStart}
-use Rattle.certificate.specs.Layout.{rows, implicationFrom, stepFrom, problemIn, claimIn}
+use Rattle.certificate.specs.Layout.{implicationFrom, stepFrom, problemIn, claimIn}
 use Rattle.certificate.specs.Judge.{claimInRange, stepAt, stepProves, goalProved}
 use Rattle.certificate.specs.Checked.{flatsIn, Ranged, StepReady, StepsReady, StepJudged, problemBy, claimBy, stepsBy}
 use Rattle.certificate.specs.declared.Contents.{Contents}
-use Rattle.certificate.proofs.Rows.{rows-length, rows-at}
 use Rattle.certificate.proofs.Numbers.{steps-there}
 use Rattle.certificate.proofs.InRange.{range-parts, implications-below-limit}
-use Rattle.certificate.proofs.Closing.{one-is}
-use Rattle.certificate.proofs.Tables.{clauses-next}
+use Rattle.sat.proofs.Table.{clauses-more}
 
 module _ (s : List ℕ) (k : Contents) (ranged : Ranged s k) where
   n-small : (n : ℕ) → n ≡ getD s 37 0 → min n limit ≡ getD s 37 0
@@ -48,7 +46,7 @@ module _ (s : List ℕ) (k : Contents) (ranged : Ranged s k) where
     steps-ranged =
         let t : T (claimInRange (getD s 37 0) (k .implications) (claimIn s (claimStart (k .flats) (k .implications)) false (k .rows))) =
         subst (λ z. T (claimInRange (getD s 37 0) (k .implications) (claimIn s (claimStart (k .flats) (k .implications)) z (k .rows)))) derives
-        (subst (λ (m : ℕ). T (claimInRange (getD s 37 0) m (claimBy s k))) (rows-length (λ j. implicationFrom s (implicationStart (k .flats) + 3 * j)) (k .implications))
+        (subst (λ (m : ℕ). T (claimInRange (getD s 37 0) m (claimBy s k))) (tabulate-length (λ j. implicationFrom s (implicationStart (k .flats) + 3 * j)) (k .implications))
         (range-parts (problemBy s k) (claimBy s k) (ranged .ranged) .claim)) in
         all-All (stepInRange (getD s 37 0) (k .implications)) (stepsBy s k)
         (T-right (leb (length (stepsBy s k)) stepTable) (all (stepInRange (getD s 37 0) (k .implications)) (stepsBy s k)) t)
@@ -59,10 +57,10 @@ module _ (s : List ℕ) (k : Contents) (ranged : Ranged s k) where
       at = claimStart (k .flats) (k .implications) + 9 * i
 
       step-is : stepAt (stepsBy s k) i ≡ stepFrom s at
-      step-is = rows-at (λ j. stepFrom s (claimStart (k .flats) (k .implications) + 9 * j)) (k .rows) i (record { number = 0; assumed = 0 }) listed
+      step-is = tabulate-at (λ j. stepFrom s (claimStart (k .flats) (k .implications) + 9 * j)) (record { number = 0; assumed = 0 }) (k .rows) i listed
 
       many : length (stepsBy s k) ≡ k .rows
-      many = rows-length (λ j. stepFrom s (claimStart (k .flats) (k .implications) + 9 * j)) (k .rows)
+      many = tabulate-length (λ j. stepFrom s (claimStart (k .flats) (k .implications) + 9 * j)) (k .rows)
 
       pub number-small : getD s at 0 < k .implications
       unfolding stepInRange stepFrom
@@ -82,7 +80,7 @@ module _ (s : List ℕ) (k : Contents) (ranged : Ranged s k) where
         implication-is =
             ap (λ (z : Step). implicationAt (problemBy s k .implications) (z .number)) step-is
             ∙ ap (implicationAt (problemBy s k .implications)) (sym ex)
-            ∙ rows-at (λ j. implicationFrom s (implicationStart (k .flats) + 3 * j)) (k .implications) x (record { a = 0; b = 0; c = 0 }) (omega (arith, number-small))
+            ∙ tabulate-at (λ j. implicationFrom s (implicationStart (k .flats) + 3 * j)) (record { a = 0; b = 0; c = 0 }) (k .implications) x (omega (arith, number-small))
 
         assumed-is : stepAt (stepsBy s k) i .assumed ≡ A
         unfolding stepFrom
@@ -95,10 +93,10 @@ module _ (s : List ℕ) (k : Contents) (ranged : Ranged s k) where
             (subst (λ j. T (implicationInRange limit j)) implication-is′
             (All-at (λ j. T (implicationInRange limit j)) (problemBy s k .implications) (record { a = 0; b = 0; c = 0 })
             (all-All (implicationInRange limit) (problemBy s k .implications) (subst T (sym (implications-below-limit (problemBy s k) (claimBy s k) (ranged .ranged))) tt))
-            x (omega (arith, rows-length (λ j. implicationFrom s (implicationStart (k .flats) + 3 * j)) (k .implications), number-small))))
+            x (omega (arith, tabulate-length (λ j. implicationFrom s (implicationStart (k .flats) + 3 * j)) (k .implications), number-small))))
           where
             implication-is′ : implicationAt (problemBy s k .implications) x ≡ implicationFrom s row
-            implication-is′ = rows-at (λ j. implicationFrom s (implicationStart (k .flats) + 3 * j)) (k .implications) x (record { a = 0; b = 0; c = 0 }) (omega (arith, number-small))
+            implication-is′ = tabulate-at (λ j. implicationFrom s (implicationStart (k .flats) + 3 * j)) (record { a = 0; b = 0; c = 0 }) (k .implications) x (omega (arith, number-small))
 
         module _ (left right : List ℕ) (loaded : clauses left right (k .flats + i) ≡ known (problemBy s k .flats) (problemBy s k .implications) (take i (stepsBy s k))) where
           pub step-judged : (n b : ℕ) → n ≡ getD s 37 0 → b ≡ getD s (row + 1) 0
@@ -113,9 +111,9 @@ module _ (s : List ℕ) (k : Contents) (ranged : Ranged s k) where
               → clauses left2 right2 (k .flats + (i + 1)) ≡ known (problemBy s k .flats) (problemBy s k .implications) (take (i + 1) (stepsBy s k))
           unfolding clauseOf learned implicationFrom
           step-loaded a c la ra left2 right2 ea ec ela era hl hr l el setl setr =
-              let last : k .flats + (i + 1) ≡ suc (k .flats + i) = omega arith in
+              let last : k .flats + (i + 1) ≡ k .flats + i + 1 = omega arith in
               ap (clauses left2 right2) last
-              ∙ clauses-next left right left2 right2 (k .flats + i) l ra hl hr setl setr
+              ∙ clauses-more left right left2 right2 (k .flats + i) l ra setl setr hl hr
               ∙ ap₂ (λ (q : List Flat) (f : Flat). q ++ (f ∷ [])) loaded clause-is
               ∙ sym (known-snoc (problemBy s k .flats) (problemBy s k .implications) (take i (stepsBy s k)) (stepAt (stepsBy s k) i))
               ∙ ap (known (problemBy s k .flats) (problemBy s k .implications))
@@ -128,7 +126,7 @@ module _ (s : List ℕ) (k : Contents) (ranged : Ranged s k) where
               clause-is =
                   ap₂ {C = Flat} (λ (y z : ℕ). record { left = y; right = z })
                   (el ∙ ap (minus A) (ela ∙ single-bits a (subst (λ (z : ℕ). z < limit) (sym ea) (below .a)) ∙ ap single ea))
-                  (era ∙ one-is c (subst (AtomOrBot limit) (sym ec) (below .c)) ∙ ap one ec)
+                  (era ∙ single-one limit c (omega arith) (subst (AtomOrBot limit) (sym ec) (below .c)) ∙ ap one ec)
                   ∙ sym (ap₂ learned implication-is assumed-is)
 
     -- After all steps: the goal.
@@ -139,7 +137,7 @@ module _ (s : List ℕ) (k : Contents) (ranged : Ranged s k) where
     goal-judged i e left right loaded n g empty en eg ez =
         let known-all : clauses left right (k .flats + k .rows) ≡ known (problemBy s k .flats) (problemBy s k .implications) (stepsBy s k) =
         subst (λ (z : ℕ). clauses left right (k .flats + z) ≡ known (problemBy s k .flats) (problemBy s k .implications) (take z (stepsBy s k))) e loaded
-        ∙ ap (known (problemBy s k .flats) (problemBy s k .implications)) (take-all (k .rows) (stepsBy s k) (omega (arith, rows-length (λ j. stepFrom s (claimStart (k .flats) (k .implications) + 9 * j)) (k .rows)))) in
+        ∙ ap (known (problemBy s k .flats) (problemBy s k .implications)) (take-all (k .rows) (stepsBy s k) (omega (arith, tabulate-length (λ j. stepFrom s (claimStart (k .flats) (k .implications) + 9 * j)) (k .rows)))) in
         rw (known-all, ez, n-small n en) (ap (λ (z : ℕ). isNone (ask (getD s 37 0) (known (problemBy s k .flats) (problemBy s k .implications) (stepsBy s k)) 0 z)) eg)
 
 -- ---- the steps in order

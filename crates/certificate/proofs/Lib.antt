@@ -1,5 +1,4 @@
 -- Theorems and laws of the crate `certificate`.
-pub mod Rows
 pub mod Entries
 pub mod Numbers
 pub mod Closing

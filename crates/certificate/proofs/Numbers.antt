@@ -25,7 +25,7 @@ use Rattle.certificate.specs.Format.{implicationStart, goalStart, claimS
 use Rattle.certificate.specs.Layout.{flatFrom, implicationFrom, stepFrom, worldFrom, problemIn, claimIn}
 use Rattle.certificate.specs.Judge.{claimInRange, countsInRange, inRange}
 use Rattle.certificate.specs.Checked.{flatsIn, implicationsIn, stepsIn, worldsIn}
-use Rattle.certificate.proofs.Rows.{rows-length}
+use Rattle.ipl.proofs.Lists.{tabulate-length}
 
 -- A set of atoms below n is one within those atoms.
 pub set-in-range : (n s b : ℕ) → s < 2 ^ limit → b ≡ below n → within s b ≡ setInRange n s
@@ -89,19 +89,19 @@ module _ (s : List ℕ) (at n : ℕ) where
 module _ (s : List ℕ) (at n m R : ℕ) where
   pub worlds-range : (r : Bool) → r ≡ true → R ≤ worldTable → all (setInRange n) (worldsIn s at R) ≡ claimInRange n m (claimIn s at r R)
   unfolding claimInRange claimIn
-  worlds-range r e h = rw (e, rows-length (λ k. worldFrom s (at + 8 * k)) R, le-leb R worldTable h) refl
+  worlds-range r e h = rw (e, tabulate-length (λ k. worldFrom s (at + 8 * k)) R, le-leb R worldTable h) refl
 
   pub worlds-many : (r : Bool) → r ≡ true → worldTable < R → false ≡ claimInRange n m (claimIn s at r R)
   unfolding claimInRange claimIn
-  worlds-many r e h = rw (e, rows-length (λ k. worldFrom s (at + 8 * k)) R, lt-leb R worldTable h) refl
+  worlds-many r e h = rw (e, tabulate-length (λ k. worldFrom s (at + 8 * k)) R, lt-leb R worldTable h) refl
 
   pub steps-range : (r : Bool) → r ≡ false → R ≤ stepTable → all (stepInRange n m) (stepsIn s at R) ≡ claimInRange n m (claimIn s at r R)
   unfolding claimInRange claimIn
-  steps-range r e h = rw (e, rows-length (λ k. stepFrom s (at + 9 * k)) R, le-leb R stepTable h) refl
+  steps-range r e h = rw (e, tabulate-length (λ k. stepFrom s (at + 9 * k)) R, le-leb R stepTable h) refl
 
   pub steps-many : (r : Bool) → r ≡ false → stepTable < R → false ≡ claimInRange n m (claimIn s at r R)
   unfolding claimInRange claimIn
-  steps-many r e h = rw (e, rows-length (λ k. stepFrom s (at + 9 * k)) R, lt-leb R stepTable h) refl
+  steps-many r e h = rw (e, tabulate-length (λ k. stepFrom s (at + 9 * k)) R, lt-leb R stepTable h) refl
 
 -- The rows of a claim end the bytes.
 module _ (L F X R : ℕ) (r : Bool) (size : L ≡ claimStart F X + claimWidth r * R) where
@@ -137,23 +137,23 @@ module _ (n F X : ℕ) where
 module _ (s : List ℕ) (F X : ℕ) (claim : Claim) (n : ℕ) (en : n ≡ getD s 37 0) where
   pub range-counts : countsInRange n F X ≡ false → false ≡ inRange (problemIn s F X) claim
   unfolding inRange problemIn
-  range-counts h = rw (rows-length (λ k. flatFrom s (38 + 16 * k)) F, rows-length (λ k. implicationFrom s (implicationStart F + 3 * k)) X, ← en, h) refl
+  range-counts h = rw (tabulate-length (λ k. flatFrom s (38 + 16 * k)) F, tabulate-length (λ k. implicationFrom s (implicationStart F + 3 * k)) X, ← en, h) refl
 
   module _ (counts : countsInRange n F X ≡ true) (g : ℕ) (eg : g ≡ getD s (goalStart F X) 0) where
     pub range-goal : atomOrBot n g ≡ false → false ≡ inRange (problemIn s F X) claim
     unfolding inRange problemIn
-    range-goal h = rw (rows-length (λ k. flatFrom s (38 + 16 * k)) F, rows-length (λ k. implicationFrom s (implicationStart F + 3 * k)) X, ← en, counts, ← eg, h) refl
+    range-goal h = rw (tabulate-length (λ k. flatFrom s (38 + 16 * k)) F, tabulate-length (λ k. implicationFrom s (implicationStart F + 3 * k)) X, ← en, counts, ← eg, h) refl
 
     module _ (goal : atomOrBot n g ≡ true) where
       pub range-flats : all (flatInRange n) (flatsIn s F) ≡ false → false ≡ inRange (problemIn s F X) claim
       unfolding inRange problemIn
-      range-flats h = rw (rows-length (λ k. flatFrom s (38 + 16 * k)) F, rows-length (λ k. implicationFrom s (implicationStart F + 3 * k)) X, ← en, counts, ← eg, goal, h) refl
+      range-flats h = rw (tabulate-length (λ k. flatFrom s (38 + 16 * k)) F, tabulate-length (λ k. implicationFrom s (implicationStart F + 3 * k)) X, ← en, counts, ← eg, goal, h) refl
 
       module _ (flats : all (flatInRange n) (flatsIn s F) ≡ true) where
         pub range-implications : all (implicationInRange n) (implicationsIn s (implicationStart F) X) ≡ false → false ≡ inRange (problemIn s F X) claim
         unfolding inRange problemIn
-        range-implications h = rw (rows-length (λ k. flatFrom s (38 + 16 * k)) F, rows-length (λ k. implicationFrom s (implicationStart F + 3 * k)) X, ← en, counts, ← eg, goal, flats, h) refl
+        range-implications h = rw (tabulate-length (λ k. flatFrom s (38 + 16 * k)) F, tabulate-length (λ k. implicationFrom s (implicationStart F + 3 * k)) X, ← en, counts, ← eg, goal, flats, h) refl
 
         pub range-claim : all (implicationInRange n) (implicationsIn s (implicationStart F) X) ≡ true → claimInRange n X claim ≡ inRange (problemIn s F X) claim
         unfolding inRange problemIn
-        range-claim h = rw (rows-length (λ k. flatFrom s (38 + 16 * k)) F, rows-length (λ k. implicationFrom s (implicationStart F + 3 * k)) X, ← en, counts, ← eg, goal, flats, h) refl
+        range-claim h = rw (tabulate-length (λ k. flatFrom s (38 + 16 * k)) F, tabulate-length (λ k. implicationFrom s (implicationStart F + 3 * k)) X, ← en, counts, ← eg, goal, flats, h) refl

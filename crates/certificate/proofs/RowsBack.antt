@@ -6,13 +6,14 @@ use mathlib.Core.Path.{_≡_, refl, sym, ap, _∙_, subst}
 use Prim.Native.Nat.{ℕ, _+_, _*_, _≤_, _<_}
 use native.Mathlib.Omega.{arith}
 use lib.ListN.{length, getD, List·getD-eq-default}
+use Rattle.ipl.specs.Lists.{tabulate}
 use Rattle.ipl.specs.Clause.{bot, Implication}
 use Rattle.certificate.specs.Format.{implicationStart, goalStart, claimStart, claimWidth}
-use Rattle.certificate.specs.Layout.{rows, flatFrom, implicationFrom, stepFrom, worldFrom, laidOut, problemIn, claimIn, problemOf, claimOf}
+use Rattle.certificate.specs.Layout.{flatFrom, implicationFrom, stepFrom, worldFrom, laidOut, problemIn, claimIn, problemOf, claimOf}
 use Rattle.certificate.specs.Checked.{problemBy, claimBy, ContentsRead, Kept}
 use Rattle.certificate.specs.ReadBack.{noFlat, noImplication, noStep, atomsRead, goalRead, flatRead, implicationRead, stepOfClaim, worldOfClaim, stepRead, worldRead}
 use Rattle.certificate.specs.declared.Contents.{Contents}
-use Rattle.certificate.proofs.Rows.{rows-length, rows-at}
+use Rattle.ipl.proofs.Lists.{tabulate-length, tabulate-at}
 
 pub implication-made : (s : List ℕ) (at a b c : ℕ) → a ≡ getD s at 0 → b ≡ getD s (at + 1) 0 → c ≡ getD s (at + 2) 0 → _≡_ {A = Implication} (record { a = a; b = b; c = c }) (implicationFrom s at)
 unfolding implicationFrom
@@ -48,12 +49,12 @@ module _ (s : List ℕ) where
     pub flat-past : Kept s k → k .flats ≤ i → noFlat ≡ flatRead s i
     unfolding flatRead problemIn
     flat-past (inr u) h = rw (u .unlaid) refl
-    flat-past (inl r) h = rw (r .laid, problem-is k r) (sym (List·getD-eq-default (problemBy s k .flats) noFlat {n = i} (omega (arith, rows-length (λ j. flatFrom s (38 + 16 * j)) (k .flats)))))
+    flat-past (inl r) h = rw (r .laid, problem-is k r) (sym (List·getD-eq-default (problemBy s k .flats) noFlat {n = i} (omega (arith, tabulate-length (λ j. flatFrom s (38 + 16 * j)) (k .flats)))))
 
     pub flat-there : Kept s k → i < k .flats → flatFrom s (38 + 16 * i) ≡ flatRead s i
     unfolding flatRead problemIn
     flat-there (inr u) h = absurd (omega (arith, u .no-flats))
-    flat-there (inl r) h = rw (r .laid, problem-is k r) (sym (rows-at (λ j. flatFrom s (38 + 16 * j)) (k .flats) i noFlat h))
+    flat-there (inl r) h = rw (r .laid, problem-is k r) (sym (tabulate-at (λ j. flatFrom s (38 + 16 * j)) noFlat (k .flats) i h))
 
     pub flat-fits : Kept s k → i < k .flats → 38 + 16 * i + 16 ≤ length s
     flat-fits (inr u) h = absurd (omega (arith, u .no-flats))
@@ -63,13 +64,13 @@ module _ (s : List ℕ) where
     unfolding implicationRead problemIn
     implication-past (inr u) h = rw (u .unlaid) refl
     implication-past (inl r) h =
-        rw (r .laid, problem-is k r) (sym (List·getD-eq-default (problemBy s k .implications) noImplication {n = i} (omega (arith, rows-length (λ j. implicationFrom s (implicationStart (k .flats) + 3 * j)) (k .implications)))))
+        rw (r .laid, problem-is k r) (sym (List·getD-eq-default (problemBy s k .implications) noImplication {n = i} (omega (arith, tabulate-length (λ j. implicationFrom s (implicationStart (k .flats) + 3 * j)) (k .implications)))))
 
     pub implication-there : Kept s k → i < k .implications → implicationFrom s (implicationStart (k .flats) + 3 * i) ≡ implicationRead s i
     unfolding implicationRead problemIn
     implication-there (inr u) h = absurd (omega (arith, u .no-implications))
     implication-there (inl r) h =
-        rw (r .laid, problem-is k r) (sym (rows-at (λ j. implicationFrom s (implicationStart (k .flats) + 3 * j)) (k .implications) i noImplication h))
+        rw (r .laid, problem-is k r) (sym (tabulate-at (λ j. implicationFrom s (implicationStart (k .flats) + 3 * j)) noImplication (k .implications) i h))
 
     pub implication-fits : Kept s k → i < k .implications → implicationStart (k .flats) + 3 * i + 3 ≤ length s
     implication-fits (inr u) h = absurd (omega (arith, u .no-implications))
@@ -85,7 +86,7 @@ module _ (s : List ℕ) where
     pub step-past : Kept s k → k .refuting ≡ false → k .rows ≤ i → noStep ≡ stepRead s i
     unfolding stepRead stepOfClaim claimIn
     step-past (inr u) e h = rw (u .unlaid) refl
-    step-past (inl r) e h = rw (r .laid, claim-as r false e) (sym (List·getD-eq-default (rows (λ j. stepFrom s (at + 9 * j)) (k .rows)) noStep {n = i} (omega (arith, rows-length (λ j. stepFrom s (at + 9 * j)) (k .rows)))))
+    step-past (inl r) e h = rw (r .laid, claim-as r false e) (sym (List·getD-eq-default (tabulate (λ j. stepFrom s (at + 9 * j)) (k .rows)) noStep {n = i} (omega (arith, tabulate-length (λ j. stepFrom s (at + 9 * j)) (k .rows)))))
 
     pub step-other : Kept s k → k .refuting ≡ true → noStep ≡ stepRead s i
     unfolding stepRead stepOfClaim claimIn
@@ -95,7 +96,7 @@ module _ (s : List ℕ) where
     pub step-there : Kept s k → k .refuting ≡ false → i < k .rows → stepFrom s (at + 9 * i) ≡ stepRead s i
     unfolding stepRead stepOfClaim claimIn
     step-there (inr u) e h = absurd (omega (arith, u .no-rows))
-    step-there (inl r) e h = rw (r .laid, claim-as r false e) (sym (rows-at (λ j. stepFrom s (at + 9 * j)) (k .rows) i noStep h))
+    step-there (inl r) e h = rw (r .laid, claim-as r false e) (sym (tabulate-at (λ j. stepFrom s (at + 9 * j)) noStep (k .rows) i h))
 
     pub step-fits : Kept s k → k .refuting ≡ false → i < k .rows → at + 9 * i + 9 ≤ length s
     step-fits (inr u) e h = absurd (omega (arith, u .no-rows))
@@ -104,7 +105,7 @@ module _ (s : List ℕ) where
     pub world-past : Kept s k → k .refuting ≡ true → k .rows ≤ i → 0 ≡ worldRead s i
     unfolding worldRead worldOfClaim claimIn
     world-past (inr u) e h = rw (u .unlaid) refl
-    world-past (inl r) e h = rw (r .laid, claim-as r true e) (sym (List·getD-eq-default (rows (λ j. worldFrom s (at + 8 * j)) (k .rows)) 0 {n = i} (omega (arith, rows-length (λ j. worldFrom s (at + 8 * j)) (k .rows)))))
+    world-past (inl r) e h = rw (r .laid, claim-as r true e) (sym (List·getD-eq-default (tabulate (λ j. worldFrom s (at + 8 * j)) (k .rows)) 0 {n = i} (omega (arith, tabulate-length (λ j. worldFrom s (at + 8 * j)) (k .rows)))))
 
     pub world-other : Kept s k → k .refuting ≡ false → 0 ≡ worldRead s i
     unfolding worldRead worldOfClaim claimIn
@@ -114,7 +115,7 @@ module _ (s : List ℕ) where
     pub world-there : Kept s k → k .refuting ≡ true → i < k .rows → worldFrom s (at + 8 * i) ≡ worldRead s i
     unfolding worldRead worldOfClaim claimIn
     world-there (inr u) e h = absurd (omega (arith, u .no-rows))
-    world-there (inl r) e h = rw (r .laid, claim-as r true e) (sym (rows-at (λ j. worldFrom s (at + 8 * j)) (k .rows) i 0 h))
+    world-there (inl r) e h = rw (r .laid, claim-as r true e) (sym (tabulate-at (λ j. worldFrom s (at + 8 * j)) 0 (k .rows) i h))
 
     pub world-fits : Kept s k → k .refuting ≡ true → i < k .rows → at + 8 * i + 8 ≤ length s
     world-fits (inr u) e h = absurd (omega (arith, u .no-rows))

@@ -11,7 +11,7 @@ use Rattle.atoms.specs.Sets.{has, within}
 use Rattle.atoms.specs.Bytes.{numberAt}
 use Rattle.ipl.specs.Lists.{all, any, tabulate}
 use Rattle.ipl.specs.Clause.{satisfies, beyond, realizes}
-use Rattle.ipl.proofs.Lists.{all-snoc}
+use Rattle.ipl.proofs.Lists.{all-snoc, tabulate-at, tabulate-take}
 use Rattle.sat.specs.Table.{clauseAt, clauses, allHold}
 use Rattle.certificate.specs.Format.{implicationStart, goalStart, claimStart}
 use Rattle.certificate.specs.Layout.{implicationFrom, worldFrom, problemIn}
@@ -19,7 +19,6 @@ use Rattle.certificate.specs.Judge.{worldRight}
 use Rattle.certificate.specs.Checked.{flatsIn, implicationsIn, worldsIn, WorldsReady}
 use Rattle.certificate.specs.declared.Contents.{Contents}
 use Rattle.certificate.proofs.Numbers.{worlds-there}
-use Rattle.certificate.proofs.Rows.{rows-at, take-rows}
 
 -- ---- a world beyond another
 
@@ -82,14 +81,14 @@ module _ (s : List ℕ) (F X R i : ℕ) (l : i < R) (m : ℕ) (em : m ≡ number
   W = worldsIn s (claimStart F X) R
 
   world-is : getD W i 0 ≡ m
-  world-is = rows-at (λ k. worldFrom s (claimStart F X + 8 * k)) R i 0 l ∙ sym em
+  world-is = tabulate-at (λ k. worldFrom s (claimStart F X + 8 * k)) 0 R i l ∙ sym em
 
   earlier-are : take i W ≡ worldsIn s (claimStart F X) i
-  earlier-are = take-rows (λ k. worldFrom s (claimStart F X + 8 * k)) R i (omega arith)
+  earlier-are = tabulate-take (λ k. worldFrom s (claimStart F X + 8 * k)) R i (omega arith)
 
   first-is : (f : ℕ) → f ≡ numberAt s (claimStart F X) 8 → getD W 0 0 ≡ f
   first-is f e =
-      rows-at (λ k. worldFrom s (claimStart F X + 8 * k)) R 0 0 (omega arith)
+      tabulate-at (λ k. worldFrom s (claimStart F X + 8 * k)) 0 R 0 (omega arith)
       ∙ ap (λ (z : ℕ). numberAt s z 8) {y = claimStart F X} (omega arith) ∙ sym e
 
   pub world-listed : any (eqb m) (worldsIn s (claimStart F X) i) ≡ true → false ≡ worldRight (problemIn s F X) W i

@@ -10,14 +10,14 @@ use lib.ListN.{length, take}
 use Rattle.atoms.specs.Sets.{limit}
 use Rattle.atoms.specs.Words.{rowOf, rowCount}
 use Rattle.atoms.specs.Bytes.{numberAt}
-use Rattle.ipl.specs.Lists.{all}
+use Rattle.ipl.specs.Lists.{all, tabulate}
 use Rattle.ipl.specs.Range.{implicationInRange}
 use Rattle.ipl.specs.Clause.{Flat, Implication}
 use Rattle.ipl.specs.Search.{Step, known}
 use Rattle.sat.specs.Table.{clauses}
 use Rattle.certificate.specs.Certificate.{Problem, Claim, Judgement, accepted, refused}
 use Rattle.certificate.specs.Format.{claimStart, claimWidth}
-use Rattle.certificate.specs.Layout.{rows, flatFrom, implicationFrom, stepFrom, worldFrom, rowsIn, entryRight, refuting, flatCount, implicationCount, claimCount, claimLaid, laidOut, problemIn, claimIn}
+use Rattle.certificate.specs.Layout.{flatFrom, implicationFrom, stepFrom, worldFrom, rowsIn, entryRight, refuting, flatCount, implicationCount, claimCount, claimLaid, laidOut, problemIn, claimIn}
 use Rattle.certificate.specs.Judge.{inRange, stepProves}
 use Rattle.certificate.specs.declared.Contents.{Contents}
 use Rattle.certificate.specs.declared.Checked.{Checked}
@@ -88,16 +88,16 @@ pub record Ranged (s : List ℕ) (k : Contents) : Type 0 where
 
 -- The rows of each kind, from a start on.
 abbrev pub flatsIn : List ℕ → ℕ → List Flat
-flatsIn s count = rows (λ k. flatFrom s (38 + 16 * k)) count
+flatsIn s count = tabulate (λ k. flatFrom s (38 + 16 * k)) count
 
 abbrev pub implicationsIn : List ℕ → ℕ → ℕ → List Implication
-implicationsIn s start count = rows (λ k. implicationFrom s (start + 3 * k)) count
+implicationsIn s start count = tabulate (λ k. implicationFrom s (start + 3 * k)) count
 
 abbrev pub stepsIn : List ℕ → ℕ → ℕ → List Step
-stepsIn s start count = rows (λ k. stepFrom s (start + 9 * k)) count
+stepsIn s start count = tabulate (λ k. stepFrom s (start + 9 * k)) count
 
 abbrev pub worldsIn : List ℕ → ℕ → ℕ → List ℕ
-worldsIn s start count = rows (λ k. worldFrom s (start + 8 * k)) count
+worldsIn s start count = tabulate (λ k. worldFrom s (start + 8 * k)) count
 
 -- The implication at a place of the bytes, in range over the atoms, and the flat clauses before it.
 pub record Within (s : List ℕ) (count at : ℕ) : Type 0 where

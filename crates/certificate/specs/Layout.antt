@@ -1,19 +1,15 @@
 -- How bytes are read, and when they keep the layout (document 01: refusal 13). Bytes past the end count as 0.
 use mathlib.Core.Bool.{Bool, true, false, _&&_}
-use mathlib.Core.List.{List, [], _∷_, _++_}
-use Prim.Native.Nat.{ℕ, zero, suc, _+_, _-_, _*_, _/_}
+use mathlib.Core.List.{List}
+use Prim.Native.Nat.{ℕ, _+_, _-_, _*_, _/_}
 use lib.Dec.{eqb, leb}
 use lib.ListN.{length, getD}
 use Rattle.atoms.specs.Bytes.{numberAt}
+use Rattle.ipl.specs.Lists.{tabulate}
 use Rattle.ipl.specs.Clause.{Flat, Implication}
 use Rattle.ipl.specs.Search.{Step}
 use Rattle.certificate.specs.Certificate.{Problem, Claim, valid, refuted}
 use Rattle.certificate.specs.Format.{implicationStart, goalStart, claimStart, claimKind, claimWidth, claimLeast}
-
--- The first `count` rows.
-unfoldable pub rows : {A : Type 0} → (ℕ → A) → ℕ → List A
-rows row zero = []
-rows row (suc k) = rows row k ++ (row k ∷ [])
 
 -- The row that starts at a place.
 unfoldable pub flatFrom : List ℕ → ℕ → Flat
@@ -72,14 +68,14 @@ unfoldable pub problemIn : List ℕ → ℕ → ℕ → Problem
 problemIn s F X =
     record {
       n = getD s 37 0;
-      flats = rows (λ k. flatFrom s (38 + 16 * k)) F;
-      implications = rows (λ k. implicationFrom s (implicationStart F + 3 * k)) X;
+      flats = tabulate (λ k. flatFrom s (38 + 16 * k)) F;
+      implications = tabulate (λ k. implicationFrom s (implicationStart F + 3 * k)) X;
       goal = getD s (goalStart F X) 0;
     }
 
 unfoldable pub claimIn : List ℕ → ℕ → Bool → ℕ → Claim
-claimIn s at true R = refuted (rows (λ k. worldFrom s (at + 8 * k)) R)
-claimIn s at false R = valid (rows (λ k. stepFrom s (at + 9 * k)) R)
+claimIn s at true R = refuted (tabulate (λ k. worldFrom s (at + 8 * k)) R)
+claimIn s at false R = valid (tabulate (λ k. stepFrom s (at + 9 * k)) R)
 
 unfoldable pub problemOf : List ℕ → Problem
 problemOf s = problemIn s (flatCount s) (implicationCount s)

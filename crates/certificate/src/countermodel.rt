@@ -149,8 +149,8 @@ pub fn wrong_world(bytes: &[u8], k: Contents) -> Wrong
     requires { ⌜ Ranged (now bytes) k × (k .refuting ≡ true) ⌝ }
     ensures { λ r. ⌜ placeOf r ≡ wrongPlace (problemBy (now (bytes .entry)) k) (refuted (worldsBy (now (bytes .entry)) k)) ⌝ }
 {
-    let mut left = [0u64; 512];
-    let mut right = [0u64; 512];
+    let mut left = [0u64; 512 * atoms::WORDS];
+    let mut right = [0u64; 512 * atoms::WORDS];
     load_column(bytes, 38, k.flats, &mut left);
     load_column(bytes, 46, k.flats, &mut right);
     judge_worlds(bytes, k, &left, &right)

@@ -93,8 +93,8 @@ pub fn wrong_step(bytes: &[u8], k: Contents) -> Wrong
     requires { ⌜ Ranged (now bytes) k × (k .refuting ≡ false) ⌝ }
     ensures { λ r. ⌜ placeOf r ≡ wrongPlace (problemBy (now (bytes .entry)) k) (valid (stepsBy (now (bytes .entry)) k)) ⌝ }
 {
-    let mut left = [0u64; 1024];
-    let mut right = [0u64; 1024];
+    let mut left = [0u64; 1024 * atoms::WORDS];
+    let mut right = [0u64; 1024 * atoms::WORDS];
     load_column(bytes, 38, k.flats, &mut left);
     load_column(bytes, 46, k.flats, &mut right);
     judge_steps(bytes, k, &mut left, &mut right)

@@ -1,5 +1,5 @@
 -- Laws of a body put row by row.
-use mathlib.Core.List.{List, [], _∷_, _++_, append-assoc, append-nil}
+use mathlib.Core.List.{List, _++_}
 use mathlib.Core.Path.{_≡_, sym, ap, _∙_, subst}
 use native.Mathlib.Nat.{mul-le-mul-left}
 use native.Mathlib.Numerals.{add-one}
@@ -11,12 +11,7 @@ use Rattle.atoms.proofs.Bytes.{put-next, put-nothing}
 use Rattle.ipl.specs.Lists.{tabulate}
 use Rattle.ipl.proofs.Lists.{tabulate-length}
 use Rattle.certificate.specs.Format.{each}
-use Rattle.certificate.proofs.Encoding.{length-each}
-
-each-snoc : {A : Type 0} (row : A → List ℕ) (l : List A) (x : A) → each row (l ++ (x ∷ [])) ≡ each row l ++ row x
-unfolding each
-each-snoc row [] x = append-nil (row x)
-each-snoc row (y ∷ l) x = ap (λ (r : List ℕ). row y ++ r) (each-snoc row l x) ∙ sym (append-assoc (row y) (each row l) (row x))
+use Rattle.certificate.proofs.Encoding.{length-each, each-snoc}
 
 -- What a loop over the rows of a table keeps.
 module _ {A : Type 0} (row : A → List ℕ) (width : ℕ) (wide : (x : A) → length (row x) ≡ width) (f : ℕ → A) (b : List ℕ) (at : ℕ) where

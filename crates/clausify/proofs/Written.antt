@@ -1,5 +1,5 @@
 -- Laws of the clauses of one name, and of writing them row after row.
-use mathlib.Core.Bool.{Bool, true, false, not, cond, _||_}
+use mathlib.Core.Bool.{Bool, true, false, not, cond, _||_, or-false}
 use mathlib.Core.List.{List, [], _∷_, _++_, append-assoc, append-nil}
 use mathlib.Core.Path.{_≡_, refl, sym, ap, ap₂, _∙_, subst}
 use mathlib.Core.Logic.{inl}
@@ -17,14 +17,13 @@ use Rattle.atoms.proofs.Members.{ext, has-union, has-empty}
 use Rattle.ipl.specs.Lists.{any}
 use Rattle.ipl.specs.Clause.{bot, one, Flat, Implication, closing, closings}
 use Rattle.ipl.specs.Range.{atomOrBot}
-use Rattle.ipl.proofs.Range.{atom-or-bot}
+use Rattle.ipl.proofs.Range.{atom-or-bot, single-one}
 use Rattle.ipl.specs.Book.{Call, addFlat, addImplication}
 use Rattle.sat.specs.Table.{clauses}
 use Rattle.prover.specs.State.{implicationsOf}
 use Rattle.prover.specs.Calls.{flatOf}
 use Rattle.prover.specs.declared.Implications.{Implications}
-use Rattle.prover.proofs.Rows.{clauses-more}
-use Rattle.prover.proofs.Refusals.{single-one}
+use Rattle.sat.proofs.Table.{clauses-more}
 use Rattle.clausify.specs.Naming.{setOf, clause, partCalls}
 use Rattle.clausify.specs.Additions.{flatsBy, implicationsBy}
 use Rattle.clausify.proofs.Additions.{flatsBy-append, implicationsBy-append}
@@ -65,10 +64,6 @@ short true f = omega arith
 short false f = omega arith
 
 -- ---- sets
-or-false : (b : Bool) → b || false ≡ b
-or-false true = refl
-or-false false = refl
-
 union-empty : (a : ℕ) → union a 0 ≡ a
 union-empty a = ext (union a 0) a (λ i. has-union a 0 i ∙ rw (has-empty i) (or-false (has a i)))
 

@@ -9,8 +9,8 @@ use native.Mathlib.Nat.{not-suc-le-zero, le-of-suc-le-suc, add-zero, add-suc}
 use native.Mathlib.Omega.{arith}
 use lib.Arith.{lt-of-le-ne}
 use lib.Dec.{T, eqb}
-use lib.ListN.{length, getD, length-append, List·getD-append}
-use lib.Seq.{getD-append-seam}
+use lib.ListN.{length, getD, take, length-append, List·getD-append}
+use lib.Seq.{getD-append-seam, take-all, take-append-le}
 use borrow.Author.Tests.{eqb-true, eqb-false}
 use native.Mathlib.Numerals.{add-one}
 use Rattle.atoms.proofs.Truth.{T-left, T-right, T-and, T-or, T-inl, T-inr, T-iff, T-true, T-false, true-T, false-T}
@@ -148,6 +148,21 @@ tabulate-at f d (suc n) i l = elim (decLt i n) [
       rw e (subst (λ (j : ℕ). getD (tabulate f n ++ (f n ∷ [])) j d ≡ f n) (tabulate-length f n) (getD-append-seam (tabulate f n) (f n) [] d))
 ]
 
+pub tabulate-take : {A : Type 0} (f : ℕ → A) (n i : ℕ) → i ≤ n → take i (tabulate f n) ≡ tabulate f i
+unfolding tabulate
+tabulate-take f zero i h = let e : 0 ≡ i = omega arith in subst (λ (j : ℕ). take j (tabulate f 0) ≡ tabulate f j) e refl
+tabulate-take f (suc n) i h = elim (decLt n i) [
+  | yes l ↦
+      let e : suc n ≡ i = omega arith in
+      subst (λ (j : ℕ). take j (tabulate f (suc n)) ≡ tabulate f j) e (take-all (suc n) (tabulate f (suc n)) (omega (arith, tabulate-length f (suc n))))
+  | no l ↦ take-append-le i (tabulate f n) (f n ∷ []) (omega (arith, tabulate-length f n)) ∙ tabulate-take f n i (omega arith)
+]
+
+-- A table whose rows before k stayed, with row k.
+pub tabulate-more : {A : Type 0} (f g : ℕ → A) (x : A) (k : ℕ) → ((i : ℕ) → i < k → g i ≡ f i) → g k ≡ x → tabulate g (k + 1) ≡ tabulate f k ++ (x ∷ [])
+unfolding tabulate
+tabulate-more f g x k h e = rw (add-one k) (ap₂ (λ l y. l ++ (y ∷ [])) (tabulate-same g f k h) e)
+
 -- A test over a table, one row after the other.
 pub all-next : {A : Type 0} (p : A → Bool) (f : ℕ → A) (i : ℕ) → all p (tabulate f i) ≡ true → p (f i) ≡ true → all p (tabulate f (i + 1)) ≡ true
 unfolding tabulate
@@ -156,6 +171,9 @@ all-next p f i h e = rw (add-one i, all-snoc p (tabulate f i) (f i), h, e)
 pub all-fails : {A : Type 0} (p : A → Bool) (f : ℕ → A) (i n : ℕ) → i < n → p (f i) ≡ false → all p (tabulate f n) ≡ false
 all-fails p f i n l e =
     T-false (all p (tabulate f n)) (λ t. false-T e (All-tabulate (λ x. T (p x)) f n .0 (all-All p (tabulate f n) t) i l))
+
+pub all-at : {A : Type 0} (p : A → Bool) (f : ℕ → A) (i n : ℕ) → i < n → all p (tabulate f n) ≡ true → p (f i) ≡ true
+all-at p f i n l e = T-true (p (f i)) (All-tabulate (λ x. T (p x)) f n .0 (all-All p (tabulate f n) (true-T e)) i l)
 
 pub all-end : {A : Type 0} (p : A → Bool) (f : ℕ → A) (i n : ℕ) → i ≤ n → n ≤ i → all p (tabulate f i) ≡ true → true ≡ all p (tabulate f n)
 all-end p f i n h k e = sym (subst (λ (j : ℕ). all p (tabulate f j) ≡ true) (omega arith) e)

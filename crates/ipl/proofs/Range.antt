@@ -1,12 +1,14 @@
 -- Numbers in range, as statements.
 use mathlib.Core.Bool.{false, _&&_}
 use mathlib.Core.Logic.{_⊎_, inl, inr}
-use mathlib.Core.Path.{_≡_, sym, subst}
+use mathlib.Core.Path.{_≡_, sym, subst, _∙_}
 use Prim.Native.Nat.{ℕ, _^_, _≤_, _<_}
 use native.Mathlib.Omega.{arith}
 use lib.Dec.{T, eqb, ltb, eqb→eq, eqb-refl, ltb→lt, lt→ltb}
 use lib.Pow.{pow-pos, pow-lt}
-use Rattle.atoms.specs.Sets.{has, single}
+use Rattle.atoms.specs.Sets.{has, limit, single}
+use Rattle.atoms.specs.Words.{singleOrEmpty}
+use Rattle.atoms.proofs.Machine.{limit-small, single-bits, single-none}
 use Rattle.atoms.proofs.Truth.{T-left, T-right, T-and, T-or, T-inl, T-inr, true-T, false-T, by-cond}
 use Rattle.atoms.proofs.Members.{has-empty, has-single}
 use Rattle.ipl.specs.Clause.{bot, one, Flat, Implication}
@@ -68,6 +70,12 @@ one-has x d = rw (ne-eqb x bot d) (subst T (sym (has-single x x)) (eqb-refl x))
 pub one-in-range : (n x : ℕ) → AtomOrBot n x → T (setInRange n (one x))
 unfolding setInRange
 one-in-range n x h = lt→ltb (one x) (2 ^ n) (one-below n x h)
+
+-- An atom or ⊥, as the code makes its set.
+pub single-one : (n x : ℕ) → n ≤ limit → AtomOrBot n x → singleOrEmpty x ≡ one x
+unfolding one
+single-one n x h (inl l) = single-bits x (omega arith) ∙ rw (ne-eqb x bot (λ e. omega (arith, limit-small)))
+single-one n x h (inr e) = rw e (single-none bot limit-small)
 
 -- ---- and back, also over more atoms
 

@@ -11,14 +11,13 @@ use Rattle.ipl.specs.Lists.{tabulate}
 use Rattle.ipl.specs.Clause.{learned}
 use Rattle.ipl.specs.Search.{clauseOf, known}
 use Rattle.ipl.proofs.Lists.{tabulate-at, tabulate-same, map-tabulate, tabulate-append}
-use Rattle.ipl.proofs.Range.{ImplicationBelow, implication-below}
+use Rattle.ipl.proofs.Range.{ImplicationBelow, implication-below, single-one}
 use Rattle.sat.specs.Table.{clauseAt, clauses}
 use Rattle.prover.specs.State.{byteAt, implicationRow, stepRow, flatsOf, implicationsOf, stepsOf}
 use Rattle.prover.specs.Working.{Usable, Copied, learnedRow, StepsFit, StepsWritten, KnownWritten}
 use Rattle.prover.specs.declared.Flats.{Flats}
 use Rattle.prover.specs.declared.Implications.{Implications}
 use Rattle.prover.specs.declared.Steps.{Steps}
-use Rattle.prover.proofs.Refusals.{single-one}
 
 -- The row written for a step is its clause.
 pub learned-row : (n : ℕ) (x : Implications) → Usable n x → (i A : ℕ) → i < x .count → learnedRow x i A ≡ clauseOf (implicationsOf x) (record { number = i; assumed = A })

@@ -2,20 +2,17 @@
 use mathlib.Core.Bool.{Bool, true, false, cond}
 use mathlib.Core.List.{List, [], _∷_, _++_, append-nil}
 use mathlib.Core.Logic.{_⊎_, inl, inr}
-use mathlib.Core.Path.{_≡_, refl, sym, ap, _∙_}
-use Prim.Native.Nat.{ℕ, _≤_, _<_}
+use mathlib.Core.Path.{_≡_, refl, sym, ap}
+use Prim.Native.Nat.{ℕ, _<_}
 use native.Mathlib.Omega.{arith}
 use lib.Dec.{eqb, leb}
 use lib.ListN.{length}
 use borrow.Author.Tests.{eqb-true, eq-eqb, ne-eqb}
-use Rattle.atoms.specs.Sets.{limit}
-use Rattle.atoms.specs.Words.{singleOrEmpty}
-use Rattle.atoms.proofs.Machine.{limit-small, single-bits, single-none}
 use Rattle.ipl.specs.Clause.{bot, one, Flat, Implication, closing, closings}
 use Rattle.ipl.specs.Range.{flatTable, implicationTable}
 use Rattle.ipl.specs.Book.{flatRefusal, implicationRefusal, flatsFull}
 use Rattle.ipl.proofs.Lists.{tabulate-length}
-use Rattle.ipl.proofs.Range.{AtomOrBot, implication-below}
+use Rattle.ipl.proofs.Range.{implication-below, single-one}
 use Rattle.ipl.proofs.Book.{flat-unrefused, ImplicationUnrefused, implication-unrefused}
 use Rattle.sat.specs.Table.{clauseAt, clauses}
 use Rattle.prover.specs.State.{implicationRow, flatsOf, implicationsOf, book}
@@ -39,12 +36,6 @@ number-zero s k = go (inRange s)
 pub flat-room : (s : Session) (f : Flat) → flatNumber s f ≡ 0 → s .flats .count < flatTable
 flat-room s f e =
     omega (arith, flat-unrefused (book s) f (number-zero s (flatRefusal (book s) f) e .1) .1, clauses-length (s .flats .left) (s .flats .right) (s .flats .count))
-
--- An atom or ⊥, as the code makes its set.
-pub single-one : (n x : ℕ) → n ≤ limit → AtomOrBot n x → singleOrEmpty x ≡ one x
-unfolding one
-single-one n x h (inl l) = single-bits x (omega arith) ∙ rw (ne-eqb x bot (λ e. omega (arith, limit-small)))
-single-one n x h (inr e) = rw e (single-none bot limit-small)
 
 module _ (s : Session) (i : Implication) (e : implicationNumber s i ≡ 0) where
   unrefused : ImplicationUnrefused (book s) i

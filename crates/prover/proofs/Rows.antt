@@ -5,32 +5,17 @@ use native.Mathlib.Decide.{decLt}
 use Rattle.prover.specs.Working.{Copied, learnedRow, StepsFit, StepsWritten}
 use Rattle.prover.specs.declared.Steps.{Steps}
 use Prim.Native.Nat.{ℕ, _+_, _≤_, _<_}
-use native.Mathlib.Numerals.{add-one}
 use native.Mathlib.Omega.{arith}
 use lib.ListN.{length, set}
 use lib.Seq.{getD-set-same, getD-set-other}
 use Rattle.atoms.specs.Words.{words, rowOf, rowCount, RowSet}
 use Rattle.atoms.proofs.Machine.{row-count, same-rows}
-use Rattle.ipl.specs.Lists.{tabulate}
 use Rattle.ipl.specs.Clause.{Implication}
 use Rattle.ipl.specs.Range.{flatTable}
-use Rattle.ipl.proofs.Lists.{tabulate-same}
-use Rattle.sat.specs.Table.{clauseAt, clauses}
+use Rattle.ipl.proofs.Lists.{tabulate-more}
+use Rattle.sat.specs.Table.{clauseAt}
 use Rattle.prover.specs.State.{byteAt, implicationRow, implicationsOf}
 use Rattle.prover.specs.declared.Implications.{Implications}
-
--- A table whose rows before k stayed, with row k.
-pub tabulate-more : {A : Type 0} (f g : ℕ → A) (x : A) (k : ℕ) → ((i : ℕ) → i < k → g i ≡ f i) → g k ≡ x → tabulate g (k + 1) ≡ tabulate f k ++ (x ∷ [])
-unfolding tabulate
-tabulate-more f g x k h e = rw (add-one k) (ap₂ (λ l y. l ++ (y ∷ [])) (tabulate-same g f k h) e)
-
-pub clauses-more : (left right left2 right2 : List ℕ) (k l r : ℕ) → RowSet left k l left2 → RowSet right k r right2 → k < rowCount left → k < rowCount right
-    → clauses left2 right2 (k + 1) ≡ clauses left right k ++ (record { left = l; right = r } ∷ [])
-unfolding clauses
-clauses-more left right left2 right2 k l r hl hr kl kr =
-    tabulate-more (clauseAt left right) (clauseAt left2 right2) (record { left = l; right = r }) k
-    (λ i h. ap₂ (λ (x y : ℕ). record { left = x; right = y }) (hl .others i (λ e. omega arith)) (hr .others i (λ e. omega arith)))
-    (ap₂ (λ (x y : ℕ). record { left = x; right = y }) (hl .written kl) (hr .written kr))
 
 -- A column of bytes with one byte stored.
 pub byte-other : (t : List ℕ) (k x i : ℕ) → i < k → byteAt (set t k x) i ≡ byteAt t i

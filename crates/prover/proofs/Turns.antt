@@ -22,7 +22,7 @@ use Rattle.ipl.specs.Range.{worldTable, stepTable}
 use Rattle.ipl.specs.Question.{ask}
 use Rattle.ipl.specs.Search as S
 use Rattle.ipl.specs.Search.{Step, clauseOf, known, firstUnrealized, dropFrom, State, Outcome, valid, refused, done, more, begin, stepAt, resolve, look, goOn, turnWith, turn}
-use Rattle.ipl.proofs.Lists.{tabulate-length, tabulate-same, any-left}
+use Rattle.ipl.proofs.Lists.{tabulate-length, tabulate-same, any-left, tabulate-more}
 use Rattle.ipl.proofs.Range.{ImplicationBelow, implication-below}
 use Rattle.ipl.proofs.Steps.{known-snoc}
 use Rattle.sat.specs.Table.{clauseAt, clauses}
@@ -34,10 +34,11 @@ use Rattle.prover.specs.declared.realization.Pair.{Pair}
 use Rattle.prover.specs.declared.question.Progress.{Progress}
 use Rattle.prover.specs.declared.question.Turned.{Turned}
 use Rattle.prover.specs.declared.question.Turned.the-variants as turned
-use Rattle.prover.proofs.Rows.{tabulate-more, clauses-more, byte-other, byte-same}
+use Rattle.prover.proofs.Rows.{byte-other, byte-same}
 use Rattle.prover.proofs.Dropping.{ask-min}
 use Rattle.prover.proofs.Pairs.{pair-found, pair-none}
 use Rattle.prover.proofs.Known.{learned-row}
+use Rattle.sat.proofs.Table.{clauses-more}
 
 -- Clauses whose rows stayed.
 clauses-same : (left right left2 right2 : List ℕ) (k : ℕ) → ((i : ℕ) → i < k → rowOf left2 i ≡ rowOf left i) → ((i : ℕ) → i < k → rowOf right2 i ≡ rowOf right i)

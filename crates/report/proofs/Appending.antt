@@ -14,6 +14,7 @@ use Rattle.ipl.specs.Lists.{tabulate}
 use Rattle.ipl.proofs.Lists.{tabulate-append}
 use Rattle.certificate.specs.Format.{each}
 use Rattle.report.specs.Output.{Begins, Appends, longest, room, Reported}
+use Rattle.certificate.proofs.Encoding.{each-append, each-snoc}
 
 -- ---- pieces
 
@@ -63,18 +64,13 @@ word-end word i h p = same-text (take-all i word h) p
 
 -- ---- lines
 
-each-append : {A : Type 0} (line : A → List ℕ) (l m : List A) → each line (l ++ m) ≡ each line l ++ each line m
-unfolding each
-each-append line [] m = refl
-each-append line (x ∷ l) m = ap (λ r. line x ++ r) (each-append line l m) ∙ sym (append-assoc (line x) (each line l) (each line m))
-
 module _ {A : Type 0} (line : A → List ℕ) (row : ℕ → A) where
   pub next-line : {x y z : List ℕ} {at m r : ℕ} (i : ℕ) → Appends (each line (tabulate row i)) x at y m → Appends (line (row i)) y m z r
       → Appends (each line (tabulate row (i + 1))) x at z r
   unfolding tabulate each
   next-line i p q =
       same-text
-      (sym (ap (λ (n : ℕ). each line (tabulate row n)) (add-one i) ∙ each-append line (tabulate row i) (row i ∷ []) ∙ ap (λ l. each line (tabulate row i) ++ l) (append-nil (line (row i)))))
+      (sym (ap (λ (n : ℕ). each line (tabulate row n)) (add-one i) ∙ each-snoc line (tabulate row i) (row i)))
       (both p q)
 
   -- Once the buffer is full, the other lines are dropped.

@@ -1,8 +1,8 @@
 -- Laws of tables of clauses, and of the relations between sets bit by bit.
 use mathlib.Core.Bool.{Bool, true, false, not, _||_}
-use mathlib.Core.List.{List}
+use mathlib.Core.List.{List, [], _∷_, _++_}
 use mathlib.Core.Logic.{_↔_, inl, inr}
-use mathlib.Core.Path.{_≡_, refl, ap, _∙_, subst}
+use mathlib.Core.Path.{_≡_, refl, ap, _∙_, subst, ap₂}
 use Prim.Native.Nat.{ℕ, zero, suc, _+_, _-_, _<_, max}
 use native.Mathlib.Decide.{decLe}
 use native.Mathlib.Nat.{not-suc-le-zero}
@@ -10,13 +10,13 @@ use native.Mathlib.Numerals.{add-one}
 use native.Mathlib.Omega.{arith}
 use lib.Dec.{T, T-not}
 use Rattle.atoms.specs.Sets.{bitAt, union, minus, within, meets}
-use Rattle.atoms.specs.Words.{rowOf}
+use Rattle.atoms.specs.Words.{rowOf, rowCount, RowSet}
 use Rattle.atoms.proofs.Truth.{T-left, T-right, T-and, T-or, T-false, true-T, false-T}
 use Rattle.atoms.proofs.Bits.{bit-le, bit-or, bit-minus}
 use Rattle.atoms.proofs.Members.{has-bit, bit-has, within-bits, bits-within, has-meets, meets-has}
 use Rattle.ipl.specs.Clause.{satisfies}
 use Rattle.ipl.specs.Lists.{All}
-use Rattle.ipl.proofs.Lists.{All-tabulate}
+use Rattle.ipl.proofs.Lists.{All-tabulate, tabulate-more}
 use Rattle.sat.specs.Table.{clauseAt, clauses, allHold, Apart, Meets, Holds, AllHold}
 
 -- ---- the operations, by a result's equation
@@ -40,6 +40,16 @@ apart-of a b e i = elim (decLe (bitAt a i + bitAt b i) 1) [
   | yes k ↦ k
   | no k ↦ absurd (false-T e (Meets-meets a b (i, omega (arith, bit-le a i, bit-le b i), omega (arith, bit-le a i, bit-le b i))))
 ]
+
+-- ---- one clause more
+
+pub clauses-more : (left right left2 right2 : List ℕ) (k l r : ℕ) → RowSet left k l left2 → RowSet right k r right2 → k < rowCount left → k < rowCount right
+    → clauses left2 right2 (k + 1) ≡ clauses left right k ++ (record { left = l; right = r } ∷ [])
+unfolding clauses
+clauses-more left right left2 right2 k l r hl hr kl kr =
+    tabulate-more (clauseAt left right) (clauseAt left2 right2) (record { left = l; right = r }) k
+    (λ i h. ap₂ (λ (x y : ℕ). record { left = x; right = y }) (hl .others i (λ e. omega arith)) (hr .others i (λ e. omega arith)))
+    (ap₂ (λ (x y : ℕ). record { left = x; right = y }) (hl .written kl) (hr .written kr))
 
 -- ---- truth of clauses
 

@@ -2,13 +2,13 @@
 use native.Mathlib.Omega.{arith}
 use mathlib.Core.Bool.{Bool, false}
 use mathlib.Core.List.{List}
-use mathlib.Core.Path.{_≡_, sym, _∙_}
+use mathlib.Core.Path.{_≡_, refl, sym, _∙_}
 use Prim.Native.Nat.{ℕ, _+_, _*_, _-_, _≤_}
 use Rattle.atoms.specs.Words.{num}
-use Rattle.ipl.specs.Lists.{any}
+use Rattle.ipl.specs.Lists.{any, tabulate}
 use Rattle.ipl.specs.Clause.{Flat, sameFlat}
-use Rattle.certificate.specs.Layout.{rows, flatFrom}
-use Rattle.certificate.proofs.Rows.{any-none, any-next, any-found, any-done}
+use Rattle.certificate.specs.Layout.{flatFrom}
+use Rattle.ipl.proofs.Lists.{any-next, any-found, any-end}
 use Rattle.certificate.proofs.closing_clauses.has_flat.Statement.{statement}
 use Rattle.certificate.proofs.closing_clauses.has_flat.Tie as tie
 
@@ -19,13 +19,14 @@ abbrev test : ℕ → ℕ → Flat → Bool
 test left right = sameFlat (record { left = left; right = right })
 
 abbrev Inv-loop : tie.InvT-loop
-Inv-loop bytes count left right i₀ i = (i ≤ count) × (any (test (num left) (num right)) (rows (row bytes) i) ≡ false)
+Inv-loop bytes count left right i₀ i = (i ≤ count) × (any (test (num left) (num right)) (tabulate (row bytes) i) ≡ false)
 
 abbrev μ-loop : tie.MeasureT-loop
 μ-loop bytes count left right i₀ i = count - i
 
 loop-holds : tie.Need-loop-holds Inv-loop μ-loop
-loop-holds c = (omega arith, any-none (row (c .before .args .bytes .now)) (test (num (c .before .args .left)) (num (c .before .args .right))))
+unfolding any tabulate
+loop-holds c = (omega arith, refl)
 
 mul-is-flat : tie.Need-mul-is-flat Inv-loop μ-loop
 mul-is-flat c = omega arith
@@ -40,7 +41,7 @@ returns : tie.Need-returns Inv-loop μ-loop
 returns c =
     let l = c .before .before .before in
     let s = l .before .before .args in
-    sym (any-found (row (s .bytes .now)) (test (num (s .left)) (num (s .right))) (s .count) (l .loop .i) (omega arith) (sym (c .before .is-flat .ensures) ∙ c .if1 .taken))
+    sym (any-found (test (num (s .left)) (num (s .right))) (row (s .bytes .now)) (l .loop .i) (s .count) (omega arith) (sym (c .before .is-flat .ensures) ∙ c .if1 .taken))
 
 add-i : tie.Need-add-i Inv-loop μ-loop
 add-i c = omega arith
@@ -52,12 +53,12 @@ loop-again : tie.Need-loop-again Inv-loop μ-loop
 loop-again c =
     let l = c .before .before .before in
     let s = l .before .before .args in
-    (omega arith, any-next (row (s .bytes .now)) (test (num (s .left)) (num (s .right))) (l .loop .i) (l .loop .inv .1) (sym (c .before .is-flat .ensures) ∙ c .if1 .left))
+    (omega arith, any-next (test (num (s .left)) (num (s .right))) (row (s .bytes .now)) (l .loop .i) (l .loop .inv .1) (sym (c .before .is-flat .ensures) ∙ c .if1 .left))
 
 returns-2 : tie.Need-returns-2 Inv-loop μ-loop
 returns-2 c =
     let s = c .before .before .before .args in
-    sym (any-done (row (s .bytes .now)) (test (num (s .left)) (num (s .right))) (s .count) (c .before .loop .i) (c .before .loop .inv .0) (omega arith) (c .before .loop .inv .1))
+    any-end (test (num (s .left)) (num (s .right))) (row (s .bytes .now)) (c .before .loop .i) (s .count) (c .before .loop .inv .0) (omega arith) (c .before .loop .inv .1)
 
 pub has-flat-spec : {M : Type 1} → statement M
 has-flat-spec =

@@ -3,14 +3,14 @@ use native.Mathlib.Omega.{arith}
 use borrow.Author.Tests.{not-true, not-false}
 use mathlib.Core.Bool.{true}
 use mathlib.Core.List.{List}
-use mathlib.Core.Path.{_≡_, sym, _∙_}
+use mathlib.Core.Path.{_≡_, refl, sym, _∙_}
 use Prim.Native.Nat.{ℕ, _+_, _*_, _-_, _≤_}
 use Rattle.atoms.specs.Words.{num}
-use Rattle.ipl.specs.Lists.{all}
+use Rattle.ipl.specs.Lists.{all, tabulate}
 use Rattle.ipl.specs.Clause.{Implication, realizes}
-use Rattle.certificate.specs.Layout.{rows, implicationFrom}
+use Rattle.certificate.specs.Layout.{implicationFrom}
 use Rattle.certificate.specs.Checked.{worldsIn}
-use Rattle.certificate.proofs.Rows.{all-none, all-next, all-fails, all-done}
+use Rattle.ipl.proofs.Lists.{all-next, all-fails, all-end}
 use Rattle.certificate.proofs.countermodel.each_realized.Statement.{statement}
 use Rattle.certificate.proofs.countermodel.each_realized.Tie as tie
 
@@ -18,13 +18,14 @@ abbrev row : List ℕ → ℕ → ℕ → Implication
 row s first k = implicationFrom s (first + 3 * k)
 
 abbrev Inv-loop : tie.InvT-loop
-Inv-loop bytes first implications m start count i₀ i = (i ≤ implications) × (all (realizes (worldsIn bytes start count) (num m)) (rows (row bytes first) i) ≡ true)
+Inv-loop bytes first implications m start count i₀ i = (i ≤ implications) × (all (realizes (worldsIn bytes start count) (num m)) (tabulate (row bytes first) i) ≡ true)
 
 abbrev μ-loop : tie.MeasureT-loop
 μ-loop bytes first implications m start count i₀ i = implications - i
 
 loop-holds : tie.Need-loop-holds Inv-loop μ-loop
-loop-holds c = let s = c .before .args in (omega arith, all-none (row (s .bytes .now) (s .first)) (realizes (worldsIn (s .bytes .now) (s .start) (s .count)) (num (s .m))))
+unfolding all tabulate
+loop-holds c = (omega arith, refl)
 
 mul-is-realized : tie.Need-mul-is-realized Inv-loop μ-loop
 mul-is-realized c = omega arith
@@ -39,7 +40,7 @@ returns : tie.Need-returns Inv-loop μ-loop
 returns c =
     let l = c .before .before .before in
     let s = l .before .before .args in
-    sym (all-fails (row (s .bytes .now) (s .first)) (realizes (worldsIn (s .bytes .now) (s .start) (s .count)) (num (s .m))) (s .implications) (l .loop .i) (omega arith) (sym (c .before .is-realized .ensures) ∙ not-true _ (c .if1 .taken)))
+    sym (all-fails (realizes (worldsIn (s .bytes .now) (s .start) (s .count)) (num (s .m))) (row (s .bytes .now) (s .first)) (l .loop .i) (s .implications) (omega arith) (sym (c .before .is-realized .ensures) ∙ not-true _ (c .if1 .taken)))
 
 add-i : tie.Need-add-i Inv-loop μ-loop
 add-i c = omega arith
@@ -51,12 +52,12 @@ loop-again : tie.Need-loop-again Inv-loop μ-loop
 loop-again c =
     let l = c .before .before .before in
     let s = l .before .before .args in
-    (omega arith, all-next (row (s .bytes .now) (s .first)) (realizes (worldsIn (s .bytes .now) (s .start) (s .count)) (num (s .m))) (l .loop .i) (l .loop .inv .1) (sym (c .before .is-realized .ensures) ∙ not-false _ (c .if1 .left)))
+    (omega arith, all-next (realizes (worldsIn (s .bytes .now) (s .start) (s .count)) (num (s .m))) (row (s .bytes .now) (s .first)) (l .loop .i) (l .loop .inv .1) (sym (c .before .is-realized .ensures) ∙ not-false _ (c .if1 .left)))
 
 returns-2 : tie.Need-returns-2 Inv-loop μ-loop
 returns-2 c =
     let s = c .before .before .before .args in
-    sym (all-done (row (s .bytes .now) (s .first)) (realizes (worldsIn (s .bytes .now) (s .start) (s .count)) (num (s .m))) (s .implications) (c .before .loop .i) (c .before .loop .inv .0) (omega arith) (c .before .loop .inv .1))
+    all-end (realizes (worldsIn (s .bytes .now) (s .start) (s .count)) (num (s .m))) (row (s .bytes .now) (s .first)) (c .before .loop .i) (s .implications) (c .before .loop .inv .0) (omega arith) (c .before .loop .inv .1)
 
 pub each-realized-spec : {M : Type 1} → statement M
 each-realized-spec =

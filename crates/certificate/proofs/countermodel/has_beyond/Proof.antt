@@ -3,14 +3,13 @@ use borrow.Author.Needs.{needs}
 use native.Mathlib.Omega.{arith}
 use mathlib.Core.Bool.{false}
 use mathlib.Core.List.{List}
-use mathlib.Core.Path.{_≡_, sym, ap, _∙_}
+use mathlib.Core.Path.{_≡_, refl, sym, ap, _∙_}
 use Prim.Native.Nat.{ℕ, _+_, _*_, _-_, _≤_}
 use Rattle.atoms.specs.Words.{num}
-use Rattle.ipl.specs.Lists.{any}
+use Rattle.ipl.specs.Lists.{any, tabulate}
 use Rattle.ipl.specs.Clause.{beyond}
-use Rattle.certificate.specs.Layout.{implicationFrom}
-use Rattle.certificate.specs.Layout.{rows, worldFrom}
-use Rattle.certificate.proofs.Rows.{any-none, any-next, any-found, any-done}
+use Rattle.certificate.specs.Layout.{implicationFrom, worldFrom}
+use Rattle.ipl.proofs.Lists.{any-next, any-found, any-end}
 use Rattle.certificate.proofs.countermodel.has_beyond.Statement.{statement}
 use Rattle.certificate.proofs.countermodel.has_beyond.Tie as tie
 
@@ -18,13 +17,14 @@ abbrev row : List ℕ → ℕ → ℕ → ℕ
 row s start k = worldFrom s (start + 8 * k)
 
 abbrev Inv-loop : tie.InvT-loop
-Inv-loop bytes at m start count i₀ i = (i ≤ count) × (any (beyond (implicationFrom bytes at) (num m)) (rows (row bytes start) i) ≡ false)
+Inv-loop bytes at m start count i₀ i = (i ≤ count) × (any (beyond (implicationFrom bytes at) (num m)) (tabulate (row bytes start) i) ≡ false)
 
 abbrev μ-loop : tie.MeasureT-loop
 μ-loop bytes at m start count i₀ i = count - i
 
 loop-holds : tie.Need-loop-holds Inv-loop μ-loop
-loop-holds c = let s = c .before .args in (omega arith, any-none (row (s .bytes .now) (s .start)) (beyond (implicationFrom (s .bytes .now) (s .at)) (num (s .m))))
+unfolding any tabulate
+loop-holds c = (omega arith, refl)
 
 mul-load : tie.Need-mul-load Inv-loop μ-loop
 mul-load c = omega arith
@@ -43,7 +43,7 @@ returns c =
     let t = c .before in
     let l = t .before .before .before in
     let s = l .before .before .args in
-    sym (any-found (row (s .bytes .now) (s .start)) (beyond (implicationFrom (s .bytes .now) (s .at)) (num (s .m))) (s .count) (l .loop .i) (omega arith)
+    sym (any-found (beyond (implicationFrom (s .bytes .now) (s .at)) (num (s .m))) (row (s .bytes .now) (s .start)) (l .loop .i) (s .count) (omega arith)
     (ap (beyond (implicationFrom (s .bytes .now) (s .at)) (num (s .m))) (sym (t .before .load .ensures)) ∙ sym (t .is-beyond .ensures) ∙ c .if1 .taken))
 
 add-i : tie.Need-add-i Inv-loop μ-loop
@@ -58,14 +58,14 @@ loop-again c =
     let l = t .before .before .before in
     let s = l .before .before .args in (
       omega arith,
-      any-next (row (s .bytes .now) (s .start)) (beyond (implicationFrom (s .bytes .now) (s .at)) (num (s .m))) (l .loop .i) (l .loop .inv .1)
+      any-next (beyond (implicationFrom (s .bytes .now) (s .at)) (num (s .m))) (row (s .bytes .now) (s .start)) (l .loop .i) (l .loop .inv .1)
           (ap (beyond (implicationFrom (s .bytes .now) (s .at)) (num (s .m))) (sym (t .before .load .ensures)) ∙ sym (t .is-beyond .ensures) ∙ c .if1 .left),
     )
 
 returns-2 : tie.Need-returns-2 Inv-loop μ-loop
 returns-2 c =
     let s = c .before .before .before .args in
-    sym (any-done (row (s .bytes .now) (s .start)) (beyond (implicationFrom (s .bytes .now) (s .at)) (num (s .m))) (s .count) (c .before .loop .i) (c .before .loop .inv .0) (omega arith) (c .before .loop .inv .1))
+    any-end (beyond (implicationFrom (s .bytes .now) (s .at)) (num (s .m))) (row (s .bytes .now) (s .start)) (c .before .loop .i) (s .count) (c .before .loop .inv .0) (omega arith) (c .before .loop .inv .1)
 
 pub has-beyond-spec : {M : Type 1} → statement M
 has-beyond-spec =

@@ -7,7 +7,7 @@ use mathlib.Core.Path.{_≡_, sym, _∙_}
 use Prim.Native.Nat.{ℕ, _-_, _≤_, _<_}
 use Rattle.certificate.specs.Checked.{problemBy, worldsBy}
 use Rattle.certificate.specs.Judge.{worldRight}
-use Rattle.certificate.proofs.Rows.{rows-length}
+use Rattle.ipl.proofs.Lists.{tabulate-length}
 use Rattle.certificate.proofs.FirstWrong.{world-wrong, worlds-right}
 use Rattle.certificate.proofs.countermodel.judge_worlds.Statement.{statement}
 use Rattle.certificate.proofs.countermodel.judge_worlds.Tie as tie
@@ -27,7 +27,7 @@ is-right-requires c κs = (c .before .before .before .before .before .pre, omega
 returns : tie.Need-returns Inv-loop μ-loop
 returns c =
     let l = c .before .before .before in
-    world-wrong _ _ _ (rows-length _ _) (l .loop .i) (omega arith) (l .loop .inv .1) (sym (c .before .is-right .ensures) ∙ not-true _ (c .if1 .taken))
+    world-wrong _ _ _ (tabulate-length _ _) (l .loop .i) (omega arith) (l .loop .inv .1) (sym (c .before .is-right .ensures) ∙ not-true _ (c .if1 .taken))
 
 add-i : tie.Need-add-i Inv-loop μ-loop
 add-i c = omega arith
@@ -41,7 +41,7 @@ loop-again c =
     (omega arith, below-more _ (l .loop .i) (l .loop .inv .1) (sym (c .before .is-right .ensures) ∙ not-false _ (c .if1 .left)))
 
 returns-2 : tie.Need-returns-2 Inv-loop μ-loop
-returns-2 c = worlds-right _ _ _ (rows-length _ _) (c .before .loop .i) (omega arith) (c .before .loop .inv .1)
+returns-2 c = worlds-right _ _ _ (tabulate-length _ _) (c .before .loop .i) (omega arith) (c .before .loop .inv .1)
 
 pub judge-worlds-spec : {M : Type 1} → statement M
 judge-worlds-spec =

@@ -5,7 +5,7 @@ use borrow.Author.Tests.{not-true, not-false}
 use mathlib.Core.Path.{sym, _∙_}
 use Prim.Native.Nat.{_-_}
 use Rattle.atoms.proofs.Machine.{num-empty}
-use Rattle.certificate.proofs.Rows.{rows-length}
+use Rattle.ipl.proofs.Lists.{tabulate-length}
 use Rattle.certificate.proofs.FirstWrong.{step-wrong, goal-wrong, goal-right}
 use Rattle.certificate.proofs.Learning.{steps-room, goal-judged, Progress, progress-none, progress-ready, progress-next}
 use Rattle.certificate.proofs.derivation.judge_steps.Statement.{statement}
@@ -33,7 +33,7 @@ returns : tie.Need-returns Inv-loop μ-loop
 returns c =
     let j = c .before .before .before .before .before in
     let l = j .before .before .before .before in
-    step-wrong _ _ _ (rows-length _ _) (l .loop .i) (omega arith) (l .loop .inv .proved) (sym (j .judge-step .ensures .judged) ∙ not-true _ (c .if1 .taken))
+    step-wrong _ _ _ (tabulate-length _ _) (l .loop .i) (omega arith) (l .loop .inv .proved) (sym (j .judge-step .ensures .judged) ∙ not-true _ (c .if1 .taken))
 
 add-i : tie.Need-add-i Inv-loop μ-loop
 add-i c = omega arith
@@ -81,7 +81,7 @@ returns-2 : tie.Need-returns-2 Inv-loop μ-loop
 returns-2 c =
     let l = c .before .before .before .before .before .before .before .before .before .before in
     let s = l .before .before .before .before in
-    goal-right _ _ _ (rows-length _ _) (l .loop .i) (omega arith) (l .loop .inv .proved)
+    goal-right _ _ _ (tabulate-length _ _) (l .loop .i) (omega arith) (l .loop .inv .proved)
     (sym (goal-judged _ _ (s .pre .ranged) (s .pre .derives) (l .loop .i) (omega (arith, l .loop .inv .few)) _ _ (l .loop .inv .loaded) _ _ _ (c .before .before .byte2 .ensures) (c .before .before .before .before .before .before .byte .ensures) num-empty) ∙ sym (c .before .proves .ensures) ∙ c .if2 .taken)
 
 same-length-5 : tie.Need-same-length-5 Inv-loop μ-loop
@@ -94,7 +94,7 @@ returns-3 : tie.Need-returns-3 Inv-loop μ-loop
 returns-3 c =
     let l = c .before .before .before .before .before .before .before .before .before .before in
     let s = l .before .before .before .before in
-    goal-wrong _ _ _ (rows-length _ _) (l .loop .i) (omega arith) (l .loop .inv .proved)
+    goal-wrong _ _ _ (tabulate-length _ _) (l .loop .i) (omega arith) (l .loop .inv .proved)
     (sym (goal-judged _ _ (s .pre .ranged) (s .pre .derives) (l .loop .i) (omega (arith, l .loop .inv .few)) _ _ (l .loop .inv .loaded) _ _ _ (c .before .before .byte2 .ensures) (c .before .before .before .before .before .before .byte .ensures) num-empty) ∙ sym (c .before .proves .ensures) ∙ c .if2 .left)
 
 pub judge-steps-spec : {M : Type 1} → statement M

@@ -4,12 +4,12 @@ use native.Mathlib.Omega.{arith}
 use borrow.Author.Tests.{not-true, not-false}
 use mathlib.Core.Bool.{true}
 use mathlib.Core.List.{List}
-use mathlib.Core.Path.{_≡_, sym, ap, _∙_}
+use mathlib.Core.Path.{_≡_, refl, sym, ap, _∙_}
 use Prim.Native.Nat.{ℕ, _+_, _*_, _-_, _≤_}
-use Rattle.ipl.specs.Lists.{all}
-use Rattle.certificate.specs.Layout.{rows, worldFrom}
+use Rattle.ipl.specs.Lists.{all, tabulate}
+use Rattle.certificate.specs.Layout.{worldFrom}
 use Rattle.ipl.specs.Range.{setInRange}
-use Rattle.certificate.proofs.Rows.{all-none, all-next, all-fails, all-done}
+use Rattle.ipl.proofs.Lists.{all-next, all-fails, all-end}
 use Rattle.certificate.proofs.ranges.worlds_in_range.Statement.{statement}
 use Rattle.certificate.proofs.ranges.worlds_in_range.Tie as tie
 
@@ -17,13 +17,14 @@ abbrev row : List ℕ → ℕ → ℕ → ℕ
 row s start k = worldFrom s (start + 8 * k)
 
 abbrev Inv-loop : tie.InvT-loop
-Inv-loop bytes start count n i₀ i = (i ≤ count) × (all (setInRange n) (rows (row bytes start) i) ≡ true)
+Inv-loop bytes start count n i₀ i = (i ≤ count) × (all (setInRange n) (tabulate (row bytes start) i) ≡ true)
 
 abbrev μ-loop : tie.MeasureT-loop
 μ-loop bytes start count n i₀ i = count - i
 
 loop-holds : tie.Need-loop-holds Inv-loop μ-loop
-loop-holds c = (omega arith, all-none (row (c .before .args .bytes .now) (c .before .args .start)) (setInRange (c .before .args .n)))
+unfolding all tabulate
+loop-holds c = (omega arith, refl)
 
 mul-load : tie.Need-mul-load Inv-loop μ-loop
 mul-load c = omega arith
@@ -42,7 +43,7 @@ returns c =
     let t = c .before in
     let l = t .before .before .before in
     let s = l .before .before .args in
-    sym (all-fails (row (s .bytes .now) (s .start)) (setInRange (s .n)) (s .count) (l .loop .i) (omega arith) (ap (setInRange (s .n)) (sym (t .before .load .ensures)) ∙ sym (t .set-in-range .ensures) ∙ not-true _ (c .if1 .taken)))
+    sym (all-fails (setInRange (s .n)) (row (s .bytes .now) (s .start)) (l .loop .i) (s .count) (omega arith) (ap (setInRange (s .n)) (sym (t .before .load .ensures)) ∙ sym (t .set-in-range .ensures) ∙ not-true _ (c .if1 .taken)))
 
 add-i : tie.Need-add-i Inv-loop μ-loop
 add-i c = omega arith
@@ -55,12 +56,12 @@ loop-again c =
     let t = c .before in
     let l = t .before .before .before in
     let s = l .before .before .args in
-    (omega arith, all-next (row (s .bytes .now) (s .start)) (setInRange (s .n)) (l .loop .i) (l .loop .inv .1) (ap (setInRange (s .n)) (sym (t .before .load .ensures)) ∙ sym (t .set-in-range .ensures) ∙ not-false _ (c .if1 .left)))
+    (omega arith, all-next (setInRange (s .n)) (row (s .bytes .now) (s .start)) (l .loop .i) (l .loop .inv .1) (ap (setInRange (s .n)) (sym (t .before .load .ensures)) ∙ sym (t .set-in-range .ensures) ∙ not-false _ (c .if1 .left)))
 
 returns-2 : tie.Need-returns-2 Inv-loop μ-loop
 returns-2 c =
     let s = c .before .before .before .args in
-    sym (all-done (row (s .bytes .now) (s .start)) (setInRange (s .n)) (s .count) (c .before .loop .i) (c .before .loop .inv .0) (omega arith) (c .before .loop .inv .1))
+    all-end (setInRange (s .n)) (row (s .bytes .now) (s .start)) (c .before .loop .i) (s .count) (c .before .loop .inv .0) (omega arith) (c .before .loop .inv .1)
 
 pub worlds-in-range-spec : {M : Type 1} → statement M
 worlds-in-range-spec =

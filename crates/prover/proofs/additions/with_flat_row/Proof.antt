@@ -1,7 +1,8 @@
 -- A row more at the end of both columns.
 use mathlib.Core.Path.{_≡_}
 use lib.ListN.{length}
-use Rattle.prover.proofs.Rows.{clauses-more, flat-room}
+use Rattle.sat.proofs.Table.{clauses-more}
+use Rattle.prover.proofs.Rows.{flat-room}
 use borrow.Author.Needs.{needs}
 use native.Mathlib.Omega.{arith}
 use Rattle.prover.proofs.additions.with_flat_row.Statement.{statement}
