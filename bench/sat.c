@@ -20,8 +20,8 @@ typedef struct { u64 has, lacks; } Partial;
 typedef struct { bool found; u64 model; Partial rests; } Found;
 
 static bool unit(u64 l, u64 r, Partial *p) {
-  if (l & p->lacks || r & p->has) return true;
-  u64 a = l & ~p->has, b = r & ~p->lacks;
+  u64 a = l & ~p->has, b = r & ~p->lacks, open = a | b;
+  if ((l & p->lacks) | (r & p->has) | (open & (open - 1))) return true;
   if (!a) {
     if (!b) return false;
     if (!(b & (b - 1))) p->has |= b;
@@ -46,26 +46,25 @@ static bool all_hold(const Table *t, u64 m) {
   return true;
 }
 
-static Partial needed(const Table *t, int n, Partial base, Partial rest) {
-  for (int i = 0; i < n; i++) {
-    u64 x = ~((u64)1 << i);
-    Partial less = {rest.has & x, rest.lacks & x};
-    if (less.has == rest.has && less.lacks == rest.lacks) continue;
+static Partial needed(const Table *t, Partial base, Partial rest) {
+  for (u64 untried = rest.has | rest.lacks; untried; untried &= untried - 1) {
+    u64 x = untried & -untried;
+    Partial less = {rest.has & ~x, rest.lacks & ~x};
     Partial known = {base.has | less.has, base.lacks | less.lacks};
     if (known.has & known.lacks || !propagate(t, &known)) rest = less;
   }
   return rest;
 }
 
-static Found least(const Table *t, int n, Partial base, Partial known, Partial decided) {
-  if (!propagate(t, &known)) return (Found){false, 0, needed(t, n, base, decided)};
+static Found least(const Table *t, Partial base, Partial known, Partial decided) {
+  if (!propagate(t, &known)) return (Found){false, 0, needed(t, base, decided)};
   if (all_hold(t, known.has)) return (Found){true, known.has, {0, 0}};
   u64 open = ~(known.has | known.lacks);
   if (!open) return (Found){false, 0, decided};
   u64 x = (u64)1 << (63 - __builtin_clzll(open));
-  Found f = least(t, n, base, (Partial){known.has, known.lacks | x}, (Partial){decided.has, decided.lacks | x});
+  Found f = least(t, base, (Partial){known.has, known.lacks | x}, (Partial){decided.has, decided.lacks | x});
   if (f.found || !(x & f.rests.lacks)) return f;
-  Found g = least(t, n, base, (Partial){known.has | x, known.lacks}, (Partial){decided.has | x, decided.lacks});
+  Found g = least(t, base, (Partial){known.has | x, known.lacks}, (Partial){decided.has | x, decided.lacks});
   if (g.found || !(x & g.rests.has)) return g;
   return (Found){false, 0, {(f.rests.has | g.rests.has) & ~x, (f.rests.lacks | g.rests.lacks) & ~x}};
 }
@@ -75,7 +74,7 @@ static u64 single(int x) { return x < 64 ? (u64)1 << x : 0; }
 static bool ask_c(const Table *t, int n, u64 given, int asked, u64 *model) {
   Partial base = {given, (n < 64 ? ~(((u64)1 << n) - 1) : 0) | single(asked)};
   if (base.has & base.lacks) return true;
-  Found f = least(t, n, base, base, (Partial){0, 0});
+  Found f = least(t, base, base, (Partial){0, 0});
   if (f.found) *model = f.model;
   return !f.found;
 }

@@ -6,11 +6,11 @@ use native.Mathlib.Decide.{decLt}
 use native.Mathlib.Nat.{pow-suc, le-of-suc-le-suc, not-suc-le-zero, lt-of-le-of-lt}
 use native.Mathlib.Omega.{arith}
 use lib.Arith.{bin-ind, digits-mod, digits-div}
-use lib.Bits.{bitAnd, and-le-l, or-lt, xor-lt}
+use lib.Bits.{bitAnd, and-le-l, and-le-r, or-lt, xor-lt}
 use lib.Dec.{T, T-not, not-T, eqb, eqb→eq}
 use lib.Pow.{pow-lt}
 use borrow.Author.Tests.{eqb-true, eqb-false, eq-eqb}
-use Rattle.atoms.specs.Sets.{bitAt, has, single, union, minus, insert, remove, within, meets}
+use Rattle.atoms.specs.Sets.{bitAt, has, single, union, minus, insert, remove, within, meets, withoutLowest}
 use Rattle.atoms.proofs.Truth.{T-left, T-right, T-and, T-iff, true-T, false-T}
 use Rattle.atoms.proofs.Bits.{bit-le, by-bits, bit-and, bit-or, bit-minus, bit-first, bit-next, bit-one, bit-other, bit-past, bit-ext}
 
@@ -87,6 +87,13 @@ insert-lt w s i h l = or-lt w s (single i) h (pow-lt l)
 pub minus-lt : (w a b : ℕ) → a < 2 ^ w → minus a b < 2 ^ w
 unfolding minus
 minus-lt w a b h = xor-lt w a (bitAnd a b) h (lt-of-le-of-lt (and-le-l a b) h)
+
+-- Each atom taken from a set makes its number smaller.
+pub without-lowest-less : (s : ℕ) → eqb s 0 ≡ false → withoutLowest s < s
+without-lowest-less s e = elim (decLt 0 s) [
+  | yes h ↦ omega (arith, and-le-r s (s - 1))
+  | no h ↦ absurd (eqb-false s 0 e (omega arith))
+]
 
 -- ---- inclusion
 

@@ -1,7 +1,7 @@
 -- Sets of atoms as numbers of any width (document 01: "a set of atoms is a 64-bit number, atom i counting 2^i").
 use mathlib.Core.Path.{_≡_}
 use mathlib.Core.Bool.{Bool, not}
-use Prim.Native.Nat.{ℕ, suc, _/_, _%_, _^_, _≤_, _<_}
+use Prim.Native.Nat.{ℕ, suc, _-_, _/_, _%_, _^_, _≤_, _<_}
 use lib.Bits.{bitAnd, bitOr, bitXor}
 use lib.Dec.{eqb}
 
@@ -25,6 +25,10 @@ single i = 2 ^ i
 abbrev pub union : ℕ → ℕ → ℕ
 union a b = bitOr a b
 
+-- Intersection.
+abbrev pub common : ℕ → ℕ → ℕ
+common a b = bitAnd a b
+
 -- The atoms of a that b lacks.
 unfoldable pub minus : ℕ → ℕ → ℕ
 minus a b = bitXor a (bitAnd a b)
@@ -43,6 +47,10 @@ within a b = eqb (bitAnd a b) a
 -- Some atom is in both.
 unfoldable pub meets : ℕ → ℕ → Bool
 meets a b = not (eqb (bitAnd a b) 0)
+
+-- s without its lowest atom: the bits that s shares with the number before it.
+abbrev pub withoutLowest : ℕ → ℕ
+withoutLowest s = bitAnd s (s - 1)
 
 -- x is the set of the highest atom of s.
 pub record Highest (s x : ℕ) : Type 0 where

@@ -2,7 +2,7 @@
 ghost use mathlib.Core.Path.{_≡_};
 ghost use Prim.Native.Nat.{_/_, _%_, _^_, _<_};
 ghost use lib.Dec.{eqb, leb};
-ghost use Rattle.atoms.specs.Sets.{limit, has, union, minus, within, meets};
+ghost use Rattle.atoms.specs.Sets.{limit, has, union, common, minus, within, meets, withoutLowest};
 ghost use Rattle.atoms.specs.Bytes.{digits, numberAt, putAt};
 ghost use Rattle.atoms.specs.Words.{num, everyAtom, singleOrEmpty, below, HighestOrEmpty, rowOf, RowSet};
 
@@ -76,6 +76,15 @@ impl AtomSet {
         }
     }
 
+    // Intersection.
+    pub fn common(self, other: AtomSet) -> Self
+        ensures { λ r. ⌜ num r ≡ common (num self) (num other) ⌝ }
+    {
+        AtomSet {
+            bits: self.bits & other.bits,
+        }
+    }
+
     // The atoms of self that other lacks.
     pub fn without(self, other: AtomSet) -> Self
         ensures { λ r. ⌜ num r ≡ minus (num self) (num other) ⌝ }
@@ -139,6 +148,18 @@ impl AtomSet {
         }
         AtomSet {
             bits: 1 << (63 - u64::leading_zeros(self.bits)),
+        }
+    }
+
+    // Self without its lowest atom; of the empty set, the empty set.
+    pub fn without_lowest(self) -> Self
+        ensures { λ r. ⌜ num r ≡ withoutLowest (num self) ⌝ }
+    {
+        if self.bits == 0 {
+            return self;
+        }
+        AtomSet {
+            bits: self.bits & (self.bits - 1),
         }
     }
 

@@ -50,6 +50,14 @@ pub fn forgetting(p: Partial, x: AtomSet) -> Partial
     }
 }
 
+// The atoms that p speaks of.
+pub fn atoms(p: Partial) -> AtomSet
+    ensures { λ r. ⌜ num r ≡ union (num (p .has)) (num (p .lacks)) ⌝ }
+{
+    let has = p.has;
+    has.join(p.lacks)
+}
+
 pub fn both(p: Partial, q: Partial) -> Partial
     ensures { λ r. ⌜ PartialIs r (union (num (p .has)) (num (q .has))) (union (num (p .lacks)) (num (q .lacks))) ⌝ }
 {

@@ -48,7 +48,7 @@ pub fn ask<'a>(
         has: given,
         lacks: lacked,
     };
-    match search::least(left, right, count, n, base, base, known::nothing()) {
+    match search::least(left, right, count, base, base, known::nothing()) {
         search::Found::Least(m) => Answer::Countered(m),
         search::Found::Blocked(_) => Answer::Proved,
     }

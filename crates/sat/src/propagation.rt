@@ -15,21 +15,19 @@ pub enum Forced {
     Known(Partial),
 }
 
-// What one clause adds to p.
+// What one clause adds to p: nothing where it is true, or where two of its atoms are open, as is seen at once.
 pub fn unit(l: AtomSet, r: AtomSet, p: Partial) -> Forced
     requires { ⌜ Fair p ⌝ }
     ensures { λ f. ⌜ Forces (Holds (num l) (num r)) p f ⌝ }
 {
     let has = p.has;
     let lacks = p.lacks;
-    if l.meets(lacks) {
-        return Forced::Known(p);
-    }
-    if r.meets(has) {
-        return Forced::Known(p);
-    }
     let a = l.without(has);
     let b = r.without(lacks);
+    let settled = l.common(lacks).join(r.common(has));
+    if !settled.join(a.join(b).without_lowest()).is_empty() {
+        return Forced::Known(p);
+    }
     if a.is_empty() {
         if b.is_empty() {
             return Forced::Conflict;

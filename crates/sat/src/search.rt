@@ -49,7 +49,6 @@ fn needed<'a>(
     left: &'a [u64],
     right: &'a [u64],
     count: usize,
-    n: u8,
     base: Partial,
     decided: Partial,
 ) -> Partial
@@ -57,10 +56,11 @@ fn needed<'a>(
     ensures { λ r. ⌜ Blocks (AllHold (now (left .entry)) (now (right .entry)) count) base r × Part r decided ⌝ }
 {
     let mut rest = decided;
-    let mut i: u8 = 0;
-    while i < n {
-        rest = dropped(left, right, count, base, rest, AtomSet::single(i));
-        i += 1;
+    let mut untried = known::atoms(decided);
+    while !untried.is_empty() {
+        let higher = untried.without_lowest();
+        rest = dropped(left, right, count, base, rest, untried.without(higher));
+        untried = higher;
     }
     rest
 }
@@ -70,7 +70,6 @@ fn descend<'a>(
     left: &'a [u64],
     right: &'a [u64],
     count: usize,
-    n: u8,
     base: Partial,
     known: Partial,
     decided: Partial,
@@ -79,7 +78,7 @@ fn descend<'a>(
     ensures { λ s. ⌜ Steps (AllHold (now (left .entry)) (now (right .entry)) count) base decided known s ⌝ }
 {
     let propagation::Forced::Known(q) = propagation::propagate(left, right, count, known) else {
-        return Step::Done(Found::Blocked(needed(left, right, count, n, base, decided)));
+        return Step::Done(Found::Blocked(needed(left, right, count, base, decided)));
     };
     let has = q.has;
     if propagation::all_hold(left, right, count, has) {
@@ -98,7 +97,6 @@ pub fn least<'a>(
     left: &'a [u64],
     right: &'a [u64],
     count: usize,
-    n: u8,
     base: Partial,
     known: Partial,
     decided: Partial,
@@ -106,13 +104,12 @@ pub fn least<'a>(
     requires { ⌜ Node (AllHold (now left) (now right) count) base decided known ⌝ }
     ensures { λ f. ⌜ Answers (AllHold (now (left .entry)) (now (right .entry)) count) base decided known f ⌝ }
 {
-    match descend(left, right, count, n, base, known, decided) {
+    match descend(left, right, count, base, known, decided) {
         Step::Done(f) => f,
         Step::Split(q, x) => match least(
             left,
             right,
             count,
-            n,
             base,
             known::lacking(q, x),
             known::lacking(decided, x),
@@ -126,7 +123,6 @@ pub fn least<'a>(
                     left,
                     right,
                     count,
-                    n,
                     base,
                     known::having(q, x),
                     known::having(decided, x),

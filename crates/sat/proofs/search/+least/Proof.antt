@@ -25,7 +25,7 @@ use Rattle.sat.proofs.search.+least.{statement}
 use Rattle.sat.proofs.search.+least.Tie.{close}
 
 abbrev μ-least : Measures 1 least-kinds.ps ℕ
-μ-least κs a = 2 ^ suc limit - (num (a .1 .1 .1 .1 .1 .0 .has) + num (a .1 .1 .1 .1 .1 .0 .lacks))
+μ-least κs a = 2 ^ suc limit - (num (a .1 .1 .1 .1 .0 .has) + num (a .1 .1 .1 .1 .0 .lacks))
 
 abbrev least-at : ℕ → In 1 least-kinds.ps
 least-at t = and 1 least-kinds.ps (is 1 least-kinds.ps μ-least t) least.Pre
