@@ -1,15 +1,18 @@
 -- The machine's words of 64 bits against the definitions: what the proofs of the functions cite.
-use mathlib.Core.Path.{_≡_, refl, ap, _∙_}
+use mathlib.Core.Path.{_≡_, refl, ap, _∙_, subst}
 use mathlib.Core.List.{List}
 use Prim.Native.Nat.{ℕ, _-_, _*_, _^_, _%_, _≤_, _<_, min}
 use native.Mathlib.Nat.{one-mul, mod-lt}
 use native.Mathlib.Omega.{arith}
 use borrow.Author.Tests.{lt-ltb, le-ltb}
+use lib.Dec.{T, ltb, eqb→eq}
 use lib.Count.{leadingZeros, leading-top}
 use lib.ListN.{length, set, length-set}
 use lib.Pow.{pow-pos, ones-lt, shl-exact}
 use lib.Seq.{getD-set-same, getD-set-other}
-use Rattle.atoms.specs.Sets.{bitAt, limit}
+use Rattle.atoms.specs.Sets.{bitAt, has, limit, single}
+use Rattle.atoms.proofs.Truth.{by-cond, false-T}
+use Rattle.atoms.proofs.Members.{has-empty, has-single}
 use Rattle.atoms.proofs.Bits.{bit-ones, bit-past}
 use Rattle.atoms.specs.Words.{num, everyAtom, singleOrEmpty, below, HighestOrEmpty, words, rowOf, rowCount, RowSet}
 
@@ -52,6 +55,11 @@ single-bits i h = rw (lt-ltb i limit h)
 pub single-none : (i : ℕ) → limit ≤ i → singleOrEmpty i ≡ 0
 unfolding singleOrEmpty
 single-none i h = rw (le-ltb i limit h)
+
+pub has-single-or-empty : (i j : ℕ) → T (has (singleOrEmpty i) j) → i ≡ j
+unfolding singleOrEmpty
+has-single-or-empty i j =
+    by-cond (λ s. T (has s j) → i ≡ j) (ltb i limit) (single i) 0 (λ e t. eqb→eq i j (subst T (has-single i j) t)) (λ e t. absurd (false-T (has-empty j) t))
 
 -- `1 << i`.
 pub one-shl : (i : ℕ) → i < 64 → 1 * 2 ^ i % 2 ^ 64 ≡ 2 ^ i

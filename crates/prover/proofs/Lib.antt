@@ -3,6 +3,7 @@ pub mod Ranges
 pub mod Sessions
 pub mod Rows
 pub mod Refusals
+pub mod Beyond
 pub mod Pairs
 pub mod Dropping
 pub mod Known

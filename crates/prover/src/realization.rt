@@ -1,19 +1,34 @@
 // Which implications a world realizes, and the first pair of a world and an implication that is not realized.
 use super::Implications;
 use atoms::AtomSet;
+ghost use mathlib.Core.Bool.{not};
 ghost use mathlib.Core.Path.{_≡_};
 ghost use Prim.Native.Nat.{_≤_, _<_};
+ghost use lib.Dec.{eqb};
 ghost use lib.ListN.{length};
-ghost use Rattle.atoms.specs.Words.{num, rowOf};
+ghost use Rattle.atoms.specs.Sets.{union, common, minus};
+ghost use Rattle.atoms.specs.Words.{num, rowOf, singleOrEmpty};
 ghost use Rattle.ipl.specs.Lists.{any, tabulate};
 ghost use Rattle.ipl.specs.Clause.{beyond, realizes};
 ghost use Rattle.ipl.specs.Range.{implicationTable};
 ghost use Rattle.prover.specs.Working.{FirstAt, NextPair};
 
+// u lacks a or an atom of m, or has b: one test for all of them.
+fn falls_short(m: AtomSet, u: AtomSet, a: u8, b: u8) -> bool
+    ensures { λ r. ⌜ r ≡ not (eqb (union (minus (union (num m) (singleOrEmpty a)) (num u)) (common (singleOrEmpty b) (num u))) 0) ⌝ }
+{
+    let wanted = m.join(AtomSet::single(a));
+    let avoided = AtomSet::single(b);
+    !wanted.without(u).join(avoided.common(u)).is_empty()
+}
+
 // u strictly includes m, has a and lacks b.
 fn is_beyond(m: AtomSet, u: AtomSet, a: u8, b: u8, c: u8) -> bool
     ensures { λ r. ⌜ r ≡ beyond (record { a = a; b = b; c = c }) (num m) (num u) ⌝ }
 {
+    if falls_short(m, u, a, b) {
+        return false;
+    }
     if !m.within(u) {
         return false;
     }

@@ -1,0 +1,53 @@
+-- The sets that the code joins.
+use mathlib.Core.Bool.{not}
+use mathlib.Core.Path.{ap, ap₂, _∙_}
+use Prim.Native.Nat.{ℕ}
+use lib.Dec.{eqb}
+use Rattle.atoms.specs.Sets.{union, common, minus}
+use Rattle.atoms.specs.Words.{num}
+use borrow.Author.Needs.{needs}
+use Rattle.prover.proofs.realization.falls_short.Statement.{statement}
+use Rattle.prover.proofs.realization.falls_short.Tie as tie
+
+single-requires : tie.Need-single-requires
+single-requires c κs = search needs
+
+join-requires : tie.Need-join-requires
+join-requires c κs = search needs
+
+single-requires-2 : tie.Need-single-requires-2
+single-requires-2 c κs = search needs
+
+without-requires : tie.Need-without-requires
+without-requires c κs = search needs
+
+common-requires : tie.Need-common-requires
+common-requires c κs = search needs
+
+join-requires-2 : tie.Need-join-requires-2
+join-requires-2 c κs = search needs
+
+is-empty-requires : tie.Need-is-empty-requires
+is-empty-requires c κs = search needs
+
+returns : tie.Need-returns
+returns c =
+    let w = c .before .before .before in
+    let j = w .before .before in
+    let s = j .before .before .args in
+    ap not (c .is-empty .ensures ∙ ap (λ (z : ℕ). eqb z 0) (c .before .join2 .ensures
+    ∙ ap₂ union (w .without .ensures ∙ ap (λ (z : ℕ). minus z (num (s .u))) (j .join .ensures ∙ ap (union (num (s .m))) (j .before .single .ensures)))
+    (c .before .before .common .ensures ∙ ap (λ (z : ℕ). common z (num (s .u))) (w .before .single2 .ensures))))
+
+pub falls-short-spec : {M : Type 1} → statement M
+falls-short-spec =
+    tie.close
+    (tie.spec
+    single-requires
+    join-requires
+    single-requires-2
+    without-requires
+    common-requires
+    join-requires-2
+    is-empty-requires
+    returns)
