@@ -31,19 +31,22 @@ static bool unit(u64 l, u64 r, Partial *p) {
   return true;
 }
 
-static bool propagate(const Table *t, Partial *p) {
-  for (;;) {
-    Partial q = *p;
-    for (size_t i = 0; i < t->count; i++)
-      if (!unit(t->left[i], t->right[i], p)) return false;
-    if (q.has == p->has && q.lacks == p->lacks) return true;
-  }
-}
-
 static bool all_hold(const Table *t, u64 m) {
   for (size_t i = 0; i < t->count; i++)
     if (!(t->left[i] & ~m) && !(t->right[i] & m)) return false;
   return true;
+}
+
+typedef enum { CONFLICT, MODEL, OPEN } Propagated;
+
+static Propagated propagate(const Table *t, Partial *p) {
+  for (;;) {
+    Partial q = *p;
+    for (size_t i = 0; i < t->count; i++)
+      if (!unit(t->left[i], t->right[i], p)) return CONFLICT;
+    if (all_hold(t, p->has)) return MODEL;
+    if (q.has == p->has && q.lacks == p->lacks) return OPEN;
+  }
 }
 
 static Partial needed(const Table *t, Partial base, Partial rest) {
@@ -51,14 +54,15 @@ static Partial needed(const Table *t, Partial base, Partial rest) {
     u64 x = untried & -untried;
     Partial less = {rest.has & ~x, rest.lacks & ~x};
     Partial known = {base.has | less.has, base.lacks | less.lacks};
-    if (known.has & known.lacks || !propagate(t, &known)) rest = less;
+    if (known.has & known.lacks || propagate(t, &known) == CONFLICT) rest = less;
   }
   return rest;
 }
 
 static Found least(const Table *t, Partial base, Partial known, Partial decided) {
-  if (!propagate(t, &known)) return (Found){false, 0, needed(t, base, decided)};
-  if (all_hold(t, known.has)) return (Found){true, known.has, {0, 0}};
+  Propagated end = propagate(t, &known);
+  if (end == CONFLICT) return (Found){false, 0, needed(t, base, decided)};
+  if (end == MODEL) return (Found){true, known.has, {0, 0}};
   u64 open = ~(known.has | known.lacks);
   if (!open) return (Found){false, 0, decided};
   u64 x = (u64)1 << (63 - __builtin_clzll(open));

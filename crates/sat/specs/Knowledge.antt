@@ -9,6 +9,8 @@ use Rattle.sat.specs.Table.{Within, Apart}
 use Rattle.sat.specs.declared.Partial.{Partial}
 use Rattle.sat.specs.declared.propagation.Forced.{Forced}
 use Rattle.sat.specs.declared.propagation.Forced.the-variants.{Conflict, Known}
+use Rattle.sat.specs.declared.propagation.Propagated.{Propagated}
+use Rattle.sat.specs.declared.propagation.Propagated.the-variants as propagated
 
 -- p knows these two sets.
 pub record PartialIs (p : Partial) (has lacks : ℕ) : Type 0 where
@@ -46,6 +48,12 @@ pub record Grown (P : ℕ → Type 0) (y x y2 x2 : ℕ) : Type 0 where
 abbrev pub Forces : (ℕ → Type 0) → Partial → Forced → Type 0
 Forces P p Conflict = (m : ℕ) → Fits p m → P m → ⊥
 Forces P p (Known q) = Grown P (num (p .has)) (num (p .lacks)) (num (q .has)) (num (q .lacks))
+
+-- What propagation comes to: what follows from p and P, and whether the atoms had are a model.
+abbrev pub Propagates : (ℕ → Type 0) → Partial → Propagated → Type 0
+Propagates P p propagated.Conflict = Forces P p Conflict
+Propagates P p (propagated.Model q) = Forces P p (Known q) × P (num (q .has))
+Propagates P p (propagated.Open q) = Forces P p (Known q) × (P (num (q .has)) → ⊥)
 
 -- No set of atoms is a model that fits both b and r.
 abbrev pub Blocks : (ℕ → Type 0) → Partial → Partial → Type 0

@@ -8,11 +8,18 @@ ghost use Prim.Native.Nat.{ℕ};
 ghost use Rattle.atoms.specs.Words.{num};
 ghost use Rattle.ipl.specs.Clause.{satisfies};
 ghost use Rattle.sat.specs.Table.{Holds, AllHold, allHold};
-ghost use Rattle.sat.specs.Knowledge.{Fair, Forces, Blocks};
+ghost use Rattle.sat.specs.Knowledge.{Fair, Forces, Propagates, Blocks};
 
 pub enum Forced {
     Conflict,
     Known(Partial),
+}
+
+// What propagation comes to: a conflict; a model, which are the atoms known to be had; or what is known where they are none.
+pub enum Propagated {
+    Conflict,
+    Model(Partial),
+    Open(Partial),
 }
 
 // What one clause adds to p: nothing where it is true, or where two of its atoms are open, as is seen at once.
@@ -64,18 +71,22 @@ pub fn sweep<'a>(left: &'a [u64], right: &'a [u64], count: usize, p: Partial) ->
     Forced::Known(q)
 }
 
-// What the clauses add to p, as far as units go.
-pub fn propagate<'a>(left: &'a [u64], right: &'a [u64], count: usize, p: Partial) -> Forced
+// What the clauses add to p, as far as units go, or until they all hold.
+pub fn propagate<'a>(left: &'a [u64], right: &'a [u64], count: usize, p: Partial) -> Propagated
     requires { ⌜ Fair p ⌝ }
-    ensures { λ f. ⌜ Forces (AllHold (now (left .entry)) (now (right .entry)) count) p f ⌝ }
+    ensures { λ f. ⌜ Propagates (AllHold (now (left .entry)) (now (right .entry)) count) p f ⌝ }
 {
     let mut q = p;
     loop {
         match sweep(left, right, count, q) {
-            Forced::Conflict => return Forced::Conflict,
+            Forced::Conflict => return Propagated::Conflict,
             Forced::Known(s) => {
+                let has = s.has;
+                if all_hold(left, right, count, has) {
+                    return Propagated::Model(s);
+                }
                 if known::same(s, q) {
-                    return Forced::Known(s);
+                    return Propagated::Open(s);
                 }
                 q = s;
             }
@@ -102,8 +113,9 @@ pub fn conflicts<'a>(
     has.bounded();
     lacks.bounded();
     match propagate(left, right, count, sum) {
-        Forced::Conflict => true,
-        Forced::Known(_) => false,
+        Propagated::Conflict => true,
+        Propagated::Model(_) => false,
+        Propagated::Open(_) => false,
     }
 }
 

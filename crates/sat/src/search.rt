@@ -3,6 +3,7 @@
 use super::Partial;
 use super::known;
 use super::propagation;
+use super::propagation::Propagated;
 use atoms::AtomSet;
 ghost use mathlib.Core.Path.{_≡_};
 ghost use Rattle.atoms.specs.Words.{num};
@@ -77,18 +78,22 @@ fn descend<'a>(
     requires { ⌜ Node (AllHold (now left) (now right) count) base decided known ⌝ }
     ensures { λ s. ⌜ Steps (AllHold (now (left .entry)) (now (right .entry)) count) base decided known s ⌝ }
 {
-    let propagation::Forced::Known(q) = propagation::propagate(left, right, count, known) else {
-        return Step::Done(Found::Blocked(needed(left, right, count, base, decided)));
-    };
-    let has = q.has;
-    if propagation::all_hold(left, right, count, has) {
-        return Step::Done(Found::Least(has));
+    match propagation::propagate(left, right, count, known) {
+        Propagated::Conflict => {
+            Step::Done(Found::Blocked(needed(left, right, count, base, decided)))
+        }
+        Propagated::Model(q) => {
+            let has = q.has;
+            Step::Done(Found::Least(has))
+        }
+        Propagated::Open(q) => {
+            let open = known::atoms(q).complement();
+            if open.is_empty() {
+                return Step::Done(Found::Blocked(decided));
+            }
+            Step::Split(q, open.highest())
+        }
     }
-    let open = has.join(q.lacks).complement();
-    if open.is_empty() {
-        return Step::Done(Found::Blocked(decided));
-    }
-    Step::Split(q, open.highest())
 }
 
 // The smallest model of what is known; else decisions that leave none. The true side of an atom is skipped where the false

@@ -3,7 +3,7 @@ use borrow.Author.Needs.{needs}
 use mathlib.Core.Bool.{false≢true}
 use mathlib.Core.Path.{sym, _∙_, subst}
 use Rattle.atoms.proofs.Truth.{true-T}
-use Rattle.sat.specs.Knowledge.{Forces}
+use Rattle.sat.specs.Knowledge.{Propagates}
 use Rattle.sat.proofs.Table.{apart-of}
 use Rattle.sat.proofs.Knowledge.{both-fit, clash}
 use Rattle.sat.proofs.propagation.conflicts.Statement.{statement}
@@ -36,14 +36,20 @@ enum-told c = search needs
 enum-told-2 : tie.Need-enum-told-2
 enum-told-2 c = search needs
 
+enum-told-3 : tie.Need-enum-told-3
+enum-told-3 c = search needs
+
 returns-2 : tie.Need-returns-2
 returns-2 c e m l h fp fq =
     let p = c .before .before in
-    subst (Forces _ _) (c .enum-told .given .1) (p .propagate .ensures) m
+    subst (Propagates _ _) (c .enum-told .given .1) (p .propagate .ensures) m
     (both-fit _ _ _ (p .before .before .before .before .before .before .before .both .ensures) m fp fq) h
 
 returns-3 : tie.Need-returns-3
 returns-3 c e = absurd (false≢true e)
+
+returns-4 : tie.Need-returns-4
+returns-4 c e = absurd (false≢true e)
 
 pub conflicts-spec : {M : Type 1} → statement M
 conflicts-spec =
@@ -57,5 +63,7 @@ conflicts-spec =
     propagate-requires
     enum-told
     enum-told-2
+    enum-told-3
     returns-2
-    returns-3)
+    returns-3
+    returns-4)
