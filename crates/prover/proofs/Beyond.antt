@@ -1,20 +1,34 @@
--- A world that falls short of what a world beyond another must be.
+-- A world beyond another, as the code tests it: nothing wanted is missing, and nothing avoided is there.
 use mathlib.Core.Bool.{not, false, _&&_}
-use mathlib.Core.Logic.{inl, inr}
-use mathlib.Core.Path.{_≡_, sym, _∙_, subst}
-use Prim.Native.Nat.{ℕ}
-use lib.Dec.{T, T-not, eqb}
-use borrow.Author.Tests.{eqb-false}
-use Rattle.atoms.specs.Sets.{has, union, common, minus, within}
+use mathlib.Core.Logic.{_⊎_, inl, inr}
+use mathlib.Core.Path.{_≡_, sym, ap, _∙_, subst}
+use Prim.Native.Nat.{ℕ, _^_, _<_}
+use native.Mathlib.Decide.{decLt}
+use native.Mathlib.Omega.{arith}
+use lib.Dec.{T, T-not, not-T, eqb, eqb→eq, eqb-refl}
+use borrow.Author.Tests.{eq-eqb}
+use Rattle.atoms.specs.Sets.{limit, has, union, common, minus, within}
 use Rattle.atoms.specs.Words.{singleOrEmpty}
-use Rattle.atoms.proofs.Truth.{T-left, T-right, T-or, T-false}
-use Rattle.atoms.proofs.Machine.{has-single-or-empty}
-use Rattle.atoms.proofs.Members.{ext, has-empty, has-and, has-union, has-minus, within-has}
+use Rattle.atoms.proofs.Truth.{T-left, T-right, T-and, T-or, T-inl, T-inr, T-false, T-iff, T-dne, true-T, false-T}
+use Rattle.atoms.proofs.Machine.{single-bits, has-single-or-empty}
+use Rattle.atoms.proofs.Members.{ext, has-past, has-empty, has-and, has-union, has-minus, has-single, within-has, has-within}
 use Rattle.ipl.specs.Clause.{Implication, beyond}
 
+single-has : (i : ℕ) → i < limit → T (has (singleOrEmpty i) i)
+single-has i h = rw (single-bits i h, has-single i i) (eqb-refl i)
+
 module _ (i : Implication) (M U : ℕ) where
+  -- The atoms wanted, and what keeps U from being beyond M.
   wanted : ℕ
   wanted = union M (singleOrEmpty (i .a))
+
+  short : ℕ
+  short = union (minus wanted U) (common (singleOrEmpty (i .b)) U)
+
+  has-short : (j : ℕ) → T (has (minus wanted U) j) ⊎ T (has (common (singleOrEmpty (i .b)) U) j) → T (has short j)
+  unfolding short
+  has-short j (inl h) = subst T (sym (has-union (minus wanted U) (common (singleOrEmpty (i .b)) U) j)) (T-inl (has (minus wanted U) j) (has (common (singleOrEmpty (i .b)) U) j) h)
+  has-short j (inr h) = subst T (sym (has-union (minus wanted U) (common (singleOrEmpty (i .b)) U) j)) (T-inr (has (minus wanted U) j) (has (common (singleOrEmpty (i .b)) U) j) h)
 
   module _ (t : T (beyond i M U)) where
     but-b : T (within M U && not (eqb M U) && has U (i .a))
@@ -41,14 +55,45 @@ module _ (i : Implication) (M U : ℕ) where
     avoided-out : (j : ℕ) → T (has (singleOrEmpty (i .b)) j) → T (has U j) → ⊥
     avoided-out j h u = T-not (has U (i .b)) lacks-b (subst (λ (k : ℕ). T (has U k)) (sym (has-single-or-empty (i .b) j h)) u)
 
-    nothing : (j : ℕ) → has (union (minus wanted U) (common (singleOrEmpty (i .b)) U)) j ≡ false
-    nothing j = T-false (has (union (minus wanted U) (common (singleOrEmpty (i .b)) U)) j) (λ h.
+    nothing-short : (j : ℕ) → has short j ≡ false
+    unfolding short
+    nothing-short j = T-false (has short j) (λ h.
         elim (T-or (has (minus wanted U) j) (has (common (singleOrEmpty (i .b)) U) j) (subst T (has-union (minus wanted U) (common (singleOrEmpty (i .b)) U) j) h)) [
           | inl p ↦ let q = subst T (has-minus wanted U j) p in T-not (has U j) (T-right (has wanted j) (not (has U j)) q) (wanted-in j (T-left (has wanted j) (not (has U j)) q))
           | inr p ↦ let q = subst T (has-and (singleOrEmpty (i .b)) U j) p in avoided-out j (T-left (has (singleOrEmpty (i .b)) j) (has U j) q) (T-right (has (singleOrEmpty (i .b)) j) (has U j) q)
         ])
 
-  pub falls-short : eqb (union (minus (union M (singleOrEmpty (i .a))) U) (common (singleOrEmpty (i .b)) U)) 0 ≡ false → beyond i M U ≡ false
-  unfolding wanted
-  falls-short e = T-false (beyond i M U) (λ t. eqb-false (union (minus (union M (singleOrEmpty (i .a))) U) (common (singleOrEmpty (i .b)) U)) 0 e
-      (ext (union (minus (union M (singleOrEmpty (i .a))) U) (common (singleOrEmpty (i .b)) U)) 0 (λ j. nothing t j ∙ sym (has-empty j))))
+  module _ (e : has M (i .a) ≡ false) (a-atom : i .a < limit) (bounded : U < 2 ^ limit) where
+    module _ (z : short ≡ 0) where
+      none-short : (j : ℕ) → T (has short j) → ⊥
+      none-short j = false-T (ap (λ (s : ℕ). has s j) z ∙ has-empty j)
+
+      in-wanted : (j : ℕ) → T (has wanted j) → T (has U j)
+      in-wanted j h = T-dne (has U j) (λ n. none-short j (has-short j (inl (subst T (sym (has-minus wanted U j)) (T-and (has wanted j) (not (has U j)) h n)))))
+
+      includes-all : T (within M U)
+      unfolding wanted
+      includes-all = has-within M U (λ j m. in-wanted j (subst T (sym (has-union M (singleOrEmpty (i .a)) j)) (T-inl (has M j) (has (singleOrEmpty (i .a)) j) m)))
+
+      a-there : T (has U (i .a))
+      unfolding wanted
+      a-there = in-wanted (i .a) (subst T (sym (has-union M (singleOrEmpty (i .a)) (i .a))) (T-inr (has M (i .a)) (has (singleOrEmpty (i .a)) (i .a)) (single-has (i .a) a-atom)))
+
+      differ : T (not (eqb M U))
+      differ = not-T (eqb M U) (λ t. false-T e (subst (λ (s : ℕ). T (has s (i .a))) (sym (eqb→eq M U t)) a-there))
+
+      b-missing : T (not (has U (i .b)))
+      b-missing = not-T (has U (i .b)) (λ t. elim (decLt (i .b) limit) [
+        | yes l ↦ none-short (i .b) (has-short (i .b) (inr (subst T (sym (has-and (singleOrEmpty (i .b)) U (i .b))) (T-and (has (singleOrEmpty (i .b)) (i .b)) (has U (i .b)) (single-has (i .b) l) t))))
+        | no l ↦ false-T (has-past limit U (i .b) bounded (omega arith)) t
+      ])
+
+      is-beyond : T (beyond i M U)
+      unfolding beyond
+      is-beyond =
+          T-and (within M U && not (eqb M U) && has U (i .a)) (not (has U (i .b)))
+          (T-and (within M U && not (eqb M U)) (has U (i .a)) (T-and (within M U) (not (eqb M U)) includes-all differ) a-there) b-missing
+
+    pub beyond-tested : eqb (union (minus (union M (singleOrEmpty (i .a))) U) (common (singleOrEmpty (i .b)) U)) 0 ≡ beyond i M U
+    unfolding short wanted
+    beyond-tested = T-iff (eqb short 0) (beyond i M U) (λ t. is-beyond (eqb→eq short 0 t)) (λ t. true-T (eq-eqb short 0 (ext short 0 (λ j. nothing-short t j ∙ sym (has-empty j)))))

@@ -27,7 +27,7 @@ use Rattle.ipl.proofs.Range.{ImplicationBelow, implication-below}
 use Rattle.ipl.proofs.Steps.{known-snoc}
 use Rattle.sat.specs.Table.{clauseAt, clauses}
 use Rattle.prover.specs.State.{byteAt, implicationRow, implicationsOf}
-use Rattle.prover.specs.Working.{Usable, realizedAt, Passed, NextPair, proves, learnedRow}
+use Rattle.prover.specs.Working.{FirstAtoms, Usable, realizedAt, Passed, NextPair, proves, learnedRow}
 use Rattle.prover.specs.Search.{Tables, flatsIn, knownIn, stepIn, stepsIn, worldsIn, stateOf, Working, Began, Grew, StepJoined, Learned, TurnRight}
 use Rattle.prover.specs.declared.Implications.{Implications}
 use Rattle.prover.specs.declared.realization.Pair.{Pair}
@@ -46,6 +46,9 @@ clauses-same : (left right left2 right2 : List ℕ) (k : ℕ) → ((i : ℕ) →
 unfolding clauses
 clauses-same left right left2 right2 k hl hr =
     tabulate-same (clauseAt left2 right2) (clauseAt left right) k (λ i h. ap₂ (λ (x y : ℕ). record { left = x; right = y }) (hl i h) (hr i h))
+
+pub first-atoms : (n : ℕ) (x : Implications) → Usable n x → FirstAtoms x
+first-atoms n x u i h = omega (arith, implication-below n (implicationRow x i) (u .rows i h) .a, u .few)
 
 module _ (n g : ℕ) (x : Implications) (u : Usable n x) (t : Tables) (p : Progress) (w : Working x t p) where
   -- The question over the clauses known, as the code puts it.

@@ -25,6 +25,10 @@ pub record Usable (n : ℕ) (x : Implications) : Type 0 where
   pub count : x .count ≤ implicationTable
   pub rows : (i : ℕ) → i < x .count → T (implicationInRange n (implicationRow x i))
 
+-- The first of each implication's three is an atom.
+abbrev pub FirstAtoms : Implications → Type 0
+FirstAtoms x = (i : ℕ) → i < x .count → byteAt (x .a) i < limit
+
 -- World w realizes implication i within the first `count` worlds.
 abbrev pub realizedAt : List ℕ → ℕ → Implications → ℕ → ℕ → Bool
 realizedAt sets count x w i = realizes (tabulate (rowOf sets) count) (rowOf sets w) (implicationRow x i)

@@ -1,45 +1,31 @@
 // Which implications a world realizes, and the first pair of a world and an implication that is not realized.
 use super::Implications;
 use atoms::AtomSet;
-ghost use mathlib.Core.Bool.{not};
+ghost use mathlib.Core.Bool.{false};
 ghost use mathlib.Core.Path.{_≡_};
 ghost use Prim.Native.Nat.{_≤_, _<_};
-ghost use lib.Dec.{eqb};
 ghost use lib.ListN.{length};
-ghost use Rattle.atoms.specs.Sets.{union, common, minus};
-ghost use Rattle.atoms.specs.Words.{num, rowOf, singleOrEmpty};
+ghost use Rattle.atoms.specs.Sets.{limit, has};
+ghost use Rattle.atoms.specs.Words.{num, rowOf};
 ghost use Rattle.ipl.specs.Lists.{any, tabulate};
 ghost use Rattle.ipl.specs.Clause.{beyond, realizes};
 ghost use Rattle.ipl.specs.Range.{implicationTable};
-ghost use Rattle.prover.specs.Working.{FirstAt, NextPair};
+ghost use Rattle.prover.specs.Working.{FirstAtoms, FirstAt, NextPair};
 
-// u lacks a or an atom of m, or has b: one test for all of them.
-fn falls_short(m: AtomSet, u: AtomSet, a: u8, b: u8) -> bool
-    ensures { λ r. ⌜ r ≡ not (eqb (union (minus (union (num m) (singleOrEmpty a)) (num u)) (common (singleOrEmpty b) (num u))) 0) ⌝ }
-{
-    let wanted = m.join(AtomSet::single(a));
-    let avoided = AtomSet::single(b);
-    !wanted.without(u).join(avoided.common(u)).is_empty()
-}
-
-// u strictly includes m, has a and lacks b.
+// u strictly includes m, has a and lacks b. Where m lacks a, one test says it all.
 fn is_beyond(m: AtomSet, u: AtomSet, a: u8, b: u8, c: u8) -> bool
+    requires { ⌜ (a < limit) × (has (num m) a ≡ false) ⌝ }
     ensures { λ r. ⌜ r ≡ beyond (record { a = a; b = b; c = c }) (num m) (num u) ⌝ }
 {
-    if falls_short(m, u, a, b) {
-        return false;
-    }
-    if !m.within(u) {
-        return false;
-    }
-    if m.same(u) {
-        return false;
-    }
-    if u.has(a) { !u.has(b) } else { false }
+    u.bounded();
+    let wanted = m.join(AtomSet::single(a));
+    let avoided = AtomSet::single(b);
+    wanted.without(u).join(avoided.common(u)).is_empty()
 }
 
 // Some of the first `count` worlds is beyond m.
 fn any_beyond(sets: &[u64], count: usize, m: AtomSet, a: u8, b: u8, c: u8) -> bool
+    requires { ⌜ (a < limit) × (has (num m) a ≡ false) ⌝ }
     ensures { λ r. ⌜ r ≡ any (beyond (record { a = a; b = b; c = c }) (num m)) (tabulate (rowOf (now (sets .entry))) count) ⌝ }
 {
     let mut i = 0;
@@ -54,6 +40,7 @@ fn any_beyond(sets: &[u64], count: usize, m: AtomSet, a: u8, b: u8, c: u8) -> bo
 
 // m realizes (a → b) → c within the first `count` worlds.
 fn realized(sets: &[u64], count: usize, m: AtomSet, a: u8, b: u8, c: u8) -> bool
+    requires { ⌜ a < limit ⌝ }
     ensures { λ r. ⌜ r ≡ realizes (tabulate (rowOf (now (sets .entry))) count) (num m) (record { a = a; b = b; c = c }) ⌝ }
 {
     if m.has(a) {
@@ -70,7 +57,7 @@ fn realized(sets: &[u64], count: usize, m: AtomSet, a: u8, b: u8, c: u8) -> bool
 
 // The first implication from `from` on that world number w does not realize, or the number of implications.
 fn first_at(sets: &[u64], count: usize, w: usize, x: Implications, from: usize) -> usize
-    requires { ⌜ (from ≤ x .count) × (x .count ≤ implicationTable) ⌝ }
+    requires { ⌜ (from ≤ x .count) × (x .count ≤ implicationTable) × FirstAtoms x ⌝ }
     ensures { λ r. ⌜ FirstAt (now (sets .entry)) count w x from r ⌝ }
 {
     let m = atoms::row(sets, w);
@@ -92,7 +79,7 @@ pub struct Pair {
 
 // The first pair from p on that is not realized; past the last world where there is none.
 pub fn next_pair(sets: &[u64], count: usize, x: Implications, p: Pair) -> Pair
-    requires { ⌜ (p .implication ≤ x .count) × (p .world ≤ count) × (x .count ≤ implicationTable) ⌝ }
+    requires { ⌜ (p .implication ≤ x .count) × (p .world ≤ count) × (x .count ≤ implicationTable) × FirstAtoms x ⌝ }
     ensures { λ r. ⌜ NextPair (now (sets .entry)) count x p r ⌝ }
 {
     let mut q = p;

@@ -2,7 +2,7 @@
 use mathlib.Core.Path.{sym, ap, _∙_}
 use Rattle.atoms.specs.Words.{num}
 use Rattle.sat.specs.Answer.{answerOf}
-use Rattle.prover.proofs.Turns.{begin-right, refuted-right, number, given-is, grow-right, learn-right}
+use Rattle.prover.proofs.Turns.{first-atoms, begin-right, refuted-right, number, given-is, grow-right, learn-right}
 use borrow.Author.Needs.{needs}
 use native.Mathlib.Omega.{arith}
 use Rattle.prover.proofs.question.turn.Statement.{statement}
@@ -26,7 +26,7 @@ returns c =
     begin-right (s .args .n) (s .args .goal) (s .args .t8) (s .pre .0) (record { left = s .args .left .now; right = s .args .right .now; numbers = s .args .numbers .now; assumed = s .args .assumed .now; sets = s .args .sets .now }) (s .args .p) (s .pre .1) (c .before .before .before .before .before .before .if1 .taken) _ (c .before .before .begin .result) (c .before .before .begin .ensures)
 
 next-pair-requires : tie.Need-next-pair-requires
-next-pair-requires c κs = search needs
+next-pair-requires c κs = let s = c .before .before .before .before .before .before .before in (s .pre .1 .pair-number, s .pre .1 .pair-world, s .pre .0 .count, first-atoms _ _ (s .pre .0))
 
 same-length-4 : tie.Need-same-length-4
 same-length-4 c = search needs

@@ -33,7 +33,7 @@ element-copy-out-realized-3 : tie.Need-element-copy-out-realized-3 Inv-loop μ-l
 element-copy-out-realized-3 c = omega arith
 
 realized-requires : tie.Need-realized-requires Inv-loop μ-loop
-realized-requires c κs = search needs
+realized-requires c κs = c .before .before .before .before .before .before .before .pre .2 (c .before .before .before .before .loop .i) (omega arith)
 
 returns : tie.Need-returns Inv-loop μ-loop
 returns c =

@@ -16,7 +16,7 @@ loop-holds : tie.Need-loop-holds Inv-loop μ-loop
 loop-holds c = (c .before .pre .0, c .before .pre .1, λ h. h)
 
 first-at-requires : tie.Need-first-at-requires Inv-loop μ-loop
-first-at-requires c κs = (c .before .before .loop .inv .0, c .before .before .before .before .pre .2)
+first-at-requires c κs = let s = c .before .before .before .before in (c .before .before .loop .inv .0, s .pre .2, s .pre .3)
 
 returns : tie.Need-returns Inv-loop μ-loop
 returns c =

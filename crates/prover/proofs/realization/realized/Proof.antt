@@ -1,6 +1,7 @@
 -- Having a, b or c, or a world beyond.
 use Rattle.ipl.specs.Clause.{realizes}
 use borrow.Author.Needs.{needs}
+use mathlib.Core.Path.{sym, _∙_}
 use Rattle.prover.proofs.realization.realized.Statement.{statement}
 use Rattle.prover.proofs.realization.realized.Tie as tie
 
@@ -26,7 +27,7 @@ unfolding realizes
 returns-3 c = rw (← c .before .before .before .before .before .has .ensures, c .before .before .before .before .if1 .left, ← c .before .before .before .has2 .ensures, c .before .before .if2 .left, ← c .before .has3 .ensures, c .if3 .taken)
 
 any-beyond-requires : tie.Need-any-beyond-requires
-any-beyond-requires c κs = search needs
+any-beyond-requires c κs = (c .before .before .before .before .before .before .before .pre, sym (c .before .before .before .before .before .has .ensures) ∙ c .before .before .before .before .if1 .left)
 
 returns-4 : tie.Need-returns-4
 unfolding realizes
