@@ -4,7 +4,7 @@ ghost use Prim.Native.Nat.{_/_, _%_, _^_, _<_};
 ghost use lib.Dec.{eqb, leb};
 ghost use Rattle.atoms.specs.Sets.{limit, has, union, common, minus, within, meets, withoutLowest};
 ghost use Rattle.atoms.specs.Bytes.{digits, numberAt, putAt};
-ghost use Rattle.atoms.specs.Words.{num, everyAtom, singleOrEmpty, below, HighestOrEmpty, rowOf, RowSet};
+ghost use Rattle.atoms.specs.Words.{num, everyAtom, singleOrEmpty, below, HighestOrEmpty, rowOf, rowCount, RowSet};
 
 pub mod little_endian;
 
@@ -174,6 +174,13 @@ impl AtomSet {
             digit: (self.bits % 10) as u8,
         }
     }
+}
+
+// How many sets a table holds.
+pub fn rows(table: &[u64]) -> usize
+    ensures { λ r. ⌜ r ≡ rowCount (now (table .entry)) ⌝ }
+{
+    table.len() / WORDS
 }
 
 // Row i of a table of sets; past its end, the empty set.

@@ -1,10 +1,11 @@
 -- What is known of a model, and what follows from it by propagation. P is what is asked of a model.
-use mathlib.Core.Bool.{Bool, _&&_}
+use mathlib.Core.Bool.{Bool, false, _&&_}
+use mathlib.Core.List.{List}
 use mathlib.Core.Path.{_≡_}
-use Prim.Native.Nat.{ℕ, _^_, _<_}
+use Prim.Native.Nat.{ℕ, _^_, _≤_, _<_}
 use lib.Dec.{eqb}
-use Rattle.atoms.specs.Sets.{limit}
-use Rattle.atoms.specs.Words.{num}
+use Rattle.atoms.specs.Sets.{limit, union, common, minus, withoutLowest}
+use Rattle.atoms.specs.Words.{num, rowOf}
 use Rattle.sat.specs.Table.{Within, Apart}
 use Rattle.sat.specs.declared.Partial.{Partial}
 use Rattle.sat.specs.declared.propagation.Forced.{Forced}
@@ -36,6 +37,16 @@ pub record Proper (y x : ℕ) : Type 0 where
 
 abbrev pub Fair : Partial → Type 0
 Fair p = Proper (num (p .has)) (num (p .lacks))
+
+-- The clause is neither true under p nor has two atoms that p leaves open.
+abbrev pub mayTell : ℕ → ℕ → Partial → Bool
+mayTell l r p =
+    eqb (union (union (common l (num (p .lacks))) (common r (num (p .has)))) (withoutLowest (union (minus l (num (p .has))) (minus r (num (p .lacks)))))) 0
+
+-- r is from `from` on, and no clause between them may say something.
+pub record NextTelling (left right : List ℕ) (from : ℕ) (p : Partial) (r : ℕ) : Type 0 where
+  pub after : from ≤ r
+  pub passed : (i : ℕ) → from ≤ i → i < r → mayTell (rowOf left i) (rowOf right i) p ≡ false
 
 -- y2 and x2 know what y and x do, and what P adds to it.
 pub record Grown (P : ℕ → Type 0) (y x y2 x2 : ℕ) : Type 0 where

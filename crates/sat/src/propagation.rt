@@ -8,7 +8,7 @@ ghost use Prim.Native.Nat.{ℕ};
 ghost use Rattle.atoms.specs.Words.{num};
 ghost use Rattle.ipl.specs.Clause.{satisfies};
 ghost use Rattle.sat.specs.Table.{Holds, AllHold, allHold};
-ghost use Rattle.sat.specs.Knowledge.{Fair, Forces, Propagates, Blocks};
+ghost use Rattle.sat.specs.Knowledge.{Fair, mayTell, NextTelling, Forces, Propagates, Blocks};
 
 pub enum Forced {
     Conflict,
@@ -22,7 +22,44 @@ pub enum Propagated {
     Open(Partial),
 }
 
-// What one clause adds to p: nothing where it is true, or where two of its atoms are open, as is seen at once.
+// Whether a clause may say something under p: it does not where it is true, or where two of its atoms are open.
+fn may_tell(l: AtomSet, r: AtomSet, p: Partial) -> bool
+    ensures { λ b. ⌜ b ≡ mayTell (num l) (num r) p ⌝ }
+{
+    let has = p.has;
+    let lacks = p.lacks;
+    let settled = l.common(lacks).join(r.common(has));
+    let open = l.without(has).join(r.without(lacks));
+    settled.join(open.without_lowest()).is_empty()
+}
+
+// The first clause from `from` on that may say something under p, or the end; none is passed over in a table too short.
+fn next_telling<'a>(
+    left: &'a [u64],
+    right: &'a [u64],
+    count: usize,
+    from: usize,
+    p: Partial,
+) -> usize
+    ensures { λ r. ⌜ NextTelling (now (left .entry)) (now (right .entry)) from p r ⌝ }
+{
+    if atoms::rows(left) < count {
+        return from;
+    }
+    if atoms::rows(right) < count {
+        return from;
+    }
+    let mut i = from;
+    while i < count {
+        if may_tell(atoms::row(left, i), atoms::row(right, i), p) {
+            return i;
+        }
+        i += 1;
+    }
+    i
+}
+
+// What one clause adds to p.
 pub fn unit(l: AtomSet, r: AtomSet, p: Partial) -> Forced
     requires { ⌜ Fair p ⌝ }
     ensures { λ f. ⌜ Forces (Holds (num l) (num r)) p f ⌝ }
@@ -31,10 +68,6 @@ pub fn unit(l: AtomSet, r: AtomSet, p: Partial) -> Forced
     let lacks = p.lacks;
     let a = l.without(has);
     let b = r.without(lacks);
-    let settled = l.common(lacks).join(r.common(has));
-    if !settled.join(a.join(b).without_lowest()).is_empty() {
-        return Forced::Known(p);
-    }
     if a.is_empty() {
         if b.is_empty() {
             return Forced::Conflict;
@@ -60,13 +93,13 @@ pub fn sweep<'a>(left: &'a [u64], right: &'a [u64], count: usize, p: Partial) ->
     ensures { λ f. ⌜ Forces (AllHold (now (left .entry)) (now (right .entry)) count) p f ⌝ }
 {
     let mut q = p;
-    let mut i = 0;
+    let mut i = next_telling(left, right, count, 0, p);
     while i < count {
         match unit(atoms::row(left, i), atoms::row(right, i), q) {
             Forced::Conflict => return Forced::Conflict,
             Forced::Known(s) => q = s,
         }
-        i += 1;
+        i = next_telling(left, right, count, i + 1, q);
     }
     Forced::Known(q)
 }

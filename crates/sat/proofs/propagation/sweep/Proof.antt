@@ -1,8 +1,8 @@
--- What is known grows with each clause passed.
+-- What is known grows with each clause that says something; passing over the others is never wrong.
 use borrow.Author.Needs.{needs}
 use mathlib.Core.Path.{subst}
 use native.Mathlib.Omega.{arith}
-use Prim.Native.Nat.{ℕ, _≤_, _-_}
+use Prim.Native.Nat.{ℕ, _-_}
 use Rattle.atoms.specs.Words.{num}
 use Rattle.sat.specs.Table.{Holds, AllHold}
 use Rattle.sat.specs.Knowledge.{Forces}
@@ -12,13 +12,16 @@ use Rattle.sat.proofs.propagation.sweep.Statement.{statement}
 use Rattle.sat.proofs.propagation.sweep.Tie as tie
 
 abbrev Inv-loop : tie.InvT-loop
-Inv-loop left right count q₀ i₀ q i = (i ≤ count) × Forces (AllHold left right count) q₀ (Known q)
+Inv-loop left right count q₀ i₀ q i = Forces (AllHold left right count) q₀ (Known q)
 
 abbrev μ-loop : tie.MeasureT-loop
 μ-loop left right count q₀ i₀ q i = count - i
 
+next-telling-requires : tie.Need-next-telling-requires Inv-loop μ-loop
+next-telling-requires c κs = search needs
+
 loop-holds : tie.Need-loop-holds Inv-loop μ-loop
-loop-holds c = (omega arith, grown-refl _ _ _ (c .before .before .pre))
+loop-holds c = grown-refl _ _ _ (c .before .before .before .pre)
 
 row-requires : tie.Need-row-requires Inv-loop μ-loop
 row-requires c κs = search needs
@@ -27,41 +30,41 @@ row-requires-2 : tie.Need-row-requires-2 Inv-loop μ-loop
 row-requires-2 c κs = search needs
 
 unit-requires : tie.Need-unit-requires Inv-loop μ-loop
-unit-requires c κs = c .before .before .before .loop .inv .1 .proper
+unit-requires c κs = c .before .before .before .loop .inv .proper
 
 enum-told : tie.Need-enum-told Inv-loop μ-loop
 enum-told c = search needs
 
 -- The clause in row i is one of all.
 clause : (c : tie.After-row2 Inv-loop μ-loop) → (m : ℕ)
-    → AllHold (c .before .before .before .before .before .before .args .left .now) (c .before .before .before .before .before .before .args .right .now) (c .before .before .before .before .before .before .args .count) m
+    → AllHold (c .before .before .before .before .before .before .before .args .left .now) (c .before .before .before .before .before .before .before .args .right .now) (c .before .before .before .before .before .before .before .args .count) m
     → Holds (num (c .before .row .result)) (num (c .row2 .result)) m
 clause c m h = rw (c .before .row .ensures, c .row2 .ensures) (h (c .before .before .before .loop .i) (omega arith))
 
 returns : tie.Need-returns Inv-loop μ-loop
 returns c m e h =
     let u = c .before .before in
-    subst (Forces _ _) (c .enum-told .given .1) (u .unit .ensures) m (u .before .before .before .before .loop .inv .1 .keeps m e h) (clause (u .before) m h)
+    subst (Forces _ _) (c .enum-told .given .1) (u .unit .ensures) m (u .before .before .before .before .loop .inv .keeps m e h) (clause (u .before) m h)
 
 enum-known-s : tie.Need-enum-known-s Inv-loop μ-loop
 enum-known-s c = search needs
 
-add-i : tie.Need-add-i Inv-loop μ-loop
-add-i c = omega arith
+add-next-telling : tie.Need-add-next-telling Inv-loop μ-loop
+add-next-telling c = omega arith
+
+next-telling-requires-2 : tie.Need-next-telling-requires-2 Inv-loop μ-loop
+next-telling-requires-2 c κs = search needs
 
 loop-less : tie.Need-loop-less Inv-loop μ-loop
-loop-less c = omega arith
+loop-less c = omega (arith, c .next-telling2 .ensures .after)
 
 loop-again : tie.Need-loop-again Inv-loop μ-loop
 loop-again c =
-    let u = c .before .before .before in (
-      omega arith,
-      grown-trans _ (u .before .before .before .before .loop .inv .1)
-          (grown-weaken _ _ (clause (u .before)) (subst (Forces _ _) (c .before .s .given .1) (u .unit .ensures))),
-    )
+    let u = c .before .before .before .before in
+    grown-trans _ (u .before .before .before .before .loop .inv) (grown-weaken _ _ (clause (u .before)) (subst (Forces _ _) (c .before .before .s .given .1) (u .unit .ensures)))
 
 returns-2 : tie.Need-returns-2 Inv-loop μ-loop
-returns-2 c = c .before .loop .inv .1
+returns-2 c = c .before .loop .inv
 
 pub sweep-spec : {M : Type 1} → statement M
 sweep-spec =
@@ -69,6 +72,7 @@ sweep-spec =
     (tie.spec
     Inv-loop
     μ-loop
+    next-telling-requires
     loop-holds
     row-requires
     row-requires-2
@@ -76,7 +80,8 @@ sweep-spec =
     enum-told
     returns
     enum-known-s
-    add-i
+    add-next-telling
+    next-telling-requires-2
     loop-less
     loop-again
     returns-2)

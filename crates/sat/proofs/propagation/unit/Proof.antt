@@ -12,43 +12,19 @@ without-requires c κs = search needs
 without-requires-2 : tie.Need-without-requires-2
 without-requires-2 c κs = search needs
 
-common-requires : tie.Need-common-requires
-common-requires c κs = search needs
-
-common-requires-2 : tie.Need-common-requires-2
-common-requires-2 c κs = search needs
-
-join-requires : tie.Need-join-requires
-join-requires c κs = search needs
-
-join-requires-2 : tie.Need-join-requires-2
-join-requires-2 c κs = search needs
-
-without-lowest-requires : tie.Need-without-lowest-requires
-without-lowest-requires c κs = search needs
-
-join-requires-3 : tie.Need-join-requires-3
-join-requires-3 c κs = search needs
-
 is-empty-requires : tie.Need-is-empty-requires
 is-empty-requires c κs = search needs
-
-returns : tie.Need-returns
-returns c = search needs
 
 is-empty-requires-2 : tie.Need-is-empty-requires-2
 is-empty-requires-2 c κs = search needs
 
-is-empty-requires-3 : tie.Need-is-empty-requires-3
-is-empty-requires-3 c κs = search needs
-
-returns-2 : tie.Need-returns-2
-returns-2 c =
+returns : tie.Need-returns
+returns c =
     let e = c .before .before in
-    let w = e .before .before .before .before .before .before .before .before .before .before in
+    let w = e .before .before in
     conflict _ _ _ _ _ _ (w .before .without .ensures) (w .without2 .ensures)
-    (eqb-true _ _ (sym (e .before .is-empty2 .ensures) ∙ e .if2 .taken))
-    (eqb-true _ _ (sym (c .before .is-empty3 .ensures) ∙ c .if3 .taken))
+    (eqb-true _ _ (sym (e .before .is-empty .ensures) ∙ e .if1 .taken))
+    (eqb-true _ _ (sym (c .before .is-empty2 .ensures) ∙ c .if2 .taken))
 
 highest-requires : tie.Need-highest-requires
 highest-requires c κs = search needs
@@ -59,23 +35,23 @@ same-requires c κs = search needs
 having-requires : tie.Need-having-requires
 having-requires c κs = search needs
 
-returns-3 : tie.Need-returns-3
-returns-3 c =
+returns-2 : tie.Need-returns-2
+returns-2 c =
     let s = c .before .before in
     let b = s .before .before in
     let e = b .before .before in
-    let w = e .before .before .before .before .before .before .before .before .before .before in
+    let w = e .before .before in
     learn-has _ _ _ _ _ _ (w .before .without .ensures) (w .without2 .ensures) _ _
-    (eqb-true _ _ (sym (e .before .is-empty2 .ensures) ∙ e .if2 .taken))
-    (sym (b .before .is-empty3 .ensures) ∙ b .if3 .left)
-    (s .before .highest .ensures) (sym (s .same .ensures) ∙ c .before .if4 .taken) (c .having .ensures)
+    (eqb-true _ _ (sym (e .before .is-empty .ensures) ∙ e .if1 .taken))
+    (sym (b .before .is-empty2 .ensures) ∙ b .if2 .left)
+    (s .before .highest .ensures) (sym (s .same .ensures) ∙ c .before .if3 .taken) (c .having .ensures)
     (w .before .before .before .before .pre)
 
-returns-4 : tie.Need-returns-4
-returns-4 c = search needs
+returns-3 : tie.Need-returns-3
+returns-3 c = search needs
 
-is-empty-requires-4 : tie.Need-is-empty-requires-4
-is-empty-requires-4 c κs = search needs
+is-empty-requires-3 : tie.Need-is-empty-requires-3
+is-empty-requires-3 c κs = search needs
 
 highest-requires-2 : tie.Need-highest-requires-2
 highest-requires-2 c κs = search needs
@@ -86,23 +62,23 @@ same-requires-2 c κs = search needs
 lacking-requires : tie.Need-lacking-requires
 lacking-requires c κs = search needs
 
-returns-5 : tie.Need-returns-5
-returns-5 c =
+returns-4 : tie.Need-returns-4
+returns-4 c =
     let s = c .before .before in
     let b = s .before .before in
     let e = b .before .before in
-    let w = e .before .before .before .before .before .before .before .before .before .before in
+    let w = e .before .before in
     learn-lacks _ _ _ _ _ _ (w .before .without .ensures) (w .without2 .ensures) _ _
-    (eqb-true _ _ (sym (b .before .is-empty4 .ensures) ∙ b .if5 .taken))
-    (sym (e .before .is-empty2 .ensures) ∙ e .if2 .left)
-    (s .before .highest2 .ensures) (sym (s .same2 .ensures) ∙ c .before .if6 .taken) (c .lacking .ensures)
+    (eqb-true _ _ (sym (b .before .is-empty3 .ensures) ∙ b .if4 .taken))
+    (sym (e .before .is-empty .ensures) ∙ e .if1 .left)
+    (s .before .highest2 .ensures) (sym (s .same2 .ensures) ∙ c .before .if5 .taken) (c .lacking .ensures)
     (w .before .before .before .before .pre)
+
+returns-5 : tie.Need-returns-5
+returns-5 c = search needs
 
 returns-6 : tie.Need-returns-6
 returns-6 c = search needs
-
-returns-7 : tie.Need-returns-7
-returns-7 c = search needs
 
 pub unit-spec : {M : Type 1} → statement M
 unit-spec =
@@ -110,26 +86,18 @@ unit-spec =
     (tie.spec
     without-requires
     without-requires-2
-    common-requires
-    common-requires-2
-    join-requires
-    join-requires-2
-    without-lowest-requires
-    join-requires-3
     is-empty-requires
-    returns
     is-empty-requires-2
-    is-empty-requires-3
-    returns-2
+    returns
     highest-requires
     same-requires
     having-requires
+    returns-2
     returns-3
-    returns-4
-    is-empty-requires-4
+    is-empty-requires-3
     highest-requires-2
     same-requires-2
     lacking-requires
+    returns-4
     returns-5
-    returns-6
-    returns-7)
+    returns-6)
