@@ -31,31 +31,51 @@ static bool unit(u64 l, u64 r, Partial *p) {
   return true;
 }
 
-static bool all_hold(const Table *t, u64 m) {
-  for (size_t i = 0; i < t->count; i++)
-    if (!(t->left[i] & ~m) && !(t->right[i] & m)) return false;
-  return true;
+typedef enum { CONFLICT, MODEL, OPEN } Propagated;
+
+/* A clause that fails at m, from a row on and then before it; the count where none does. */
+static size_t failing(const Table *t, size_t from, u64 m) {
+  for (size_t i = from; i < t->count; i++)
+    if (!((t->left[i] & ~m) | (t->right[i] & m))) return i;
+  for (size_t i = 0; i < from; i++)
+    if (!((t->left[i] & ~m) | (t->right[i] & m))) return i;
+  return t->count;
 }
 
-typedef enum { CONFLICT, MODEL, OPEN } Propagated;
+static Propagated raise_failing(const Table *t, Partial *p) {
+  for (size_t i = failing(t, 0, p->has); i < t->count; i = failing(t, i + 1, p->has)) {
+    u64 b = t->right[i] & ~p->lacks;
+    if (!b) return CONFLICT;
+    if (b & (b - 1)) return OPEN;
+    p->has |= b;
+  }
+  return MODEL;
+}
 
 static Propagated propagate(const Table *t, Partial *p) {
   for (;;) {
+    Propagated raised = raise_failing(t, p);
+    if (raised != OPEN) return raised;
     Partial q = *p;
     for (size_t i = 0; i < t->count; i++)
       if (!unit(t->left[i], t->right[i], p)) return CONFLICT;
-    if (all_hold(t, p->has)) return MODEL;
     if (q.has == p->has && q.lacks == p->lacks) return OPEN;
   }
 }
 
-static Partial needed(const Table *t, Partial base, Partial rest) {
-  for (u64 untried = rest.has | rest.lacks; untried; untried &= untried - 1) {
-    u64 x = untried & -untried;
-    Partial less = {rest.has & ~x, rest.lacks & ~x};
-    Partial known = {base.has | less.has, base.lacks | less.lacks};
-    if (known.has & known.lacks || propagate(t, &known) == CONFLICT) rest = less;
-  }
+static Partial dropped(const Table *t, Partial base, Partial rest, u64 x) {
+  Partial less = {rest.has & ~x, rest.lacks & ~x};
+  if (less.has == rest.has && less.lacks == rest.lacks) return rest;
+  Partial known = {base.has | less.has, base.lacks | less.lacks};
+  return known.has & known.lacks || propagate(t, &known) == CONFLICT ? less : rest;
+}
+
+static u64 without_lowest(u64 s) { return s & (s - 1); }
+
+static Partial needed(const Table *t, Partial base, Partial decided) {
+  Partial rest = dropped(t, base, decided, without_lowest(decided.has | decided.lacks));
+  for (u64 untried = without_lowest(rest.has | rest.lacks); untried; untried = without_lowest(untried))
+    rest = dropped(t, base, rest, untried & -untried);
   return rest;
 }
 

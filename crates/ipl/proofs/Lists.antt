@@ -178,10 +178,17 @@ all-at p f i n l e = T-true (p (f i)) (All-tabulate (λ x. T (p x)) f n .0 (all-
 pub all-end : {A : Type 0} (p : A → Bool) (f : ℕ → A) (i n : ℕ) → i ≤ n → n ≤ i → all p (tabulate f i) ≡ true → true ≡ all p (tabulate f n)
 all-end p f i n h k e = sym (subst (λ (j : ℕ). all p (tabulate f j) ≡ true) (omega arith) e)
 
--- Some row, one after the other.
-pub any-next : {A : Type 0} (p : A → Bool) (f : ℕ → A) (i : ℕ) → any p (tabulate f i) ≡ false → p (f i) ≡ false → any p (tabulate f (i + 1)) ≡ false
+-- Some row, one after the other: a row that fails the test counts nothing.
+pub any-less : {A : Type 0} (p : A → Bool) (f : ℕ → A) (i n : ℕ) → n ≡ i + 1 → p (f i) ≡ false → any p (tabulate f n) ≡ any p (tabulate f i)
 unfolding tabulate
-any-next p f i h e = rw (add-one i, any-snoc p (tabulate f i) (f i), h, e)
+any-less p f i n h e = rw (h, add-one i, any-snoc p (tabulate f i) (f i), e) (or-false (any p (tabulate f i)))
+
+pub any-none : {A : Type 0} (p : A → Bool) (f : ℕ → A) (n : ℕ) → n ≡ 0 → any p (tabulate f n) ≡ false
+unfolding any tabulate
+any-none p f n h = rw h
+
+pub any-next : {A : Type 0} (p : A → Bool) (f : ℕ → A) (i : ℕ) → any p (tabulate f i) ≡ false → p (f i) ≡ false → any p (tabulate f (i + 1)) ≡ false
+any-next p f i h e = any-less p f i (i + 1) refl e ∙ h
 
 pub any-found : {A : Type 0} (p : A → Bool) (f : ℕ → A) (i n : ℕ) → i < n → p (f i) ≡ true → any p (tabulate f n) ≡ true
 any-found p f i n l e =

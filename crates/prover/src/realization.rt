@@ -23,17 +23,17 @@ fn is_beyond(m: AtomSet, u: AtomSet, a: u8, b: u8, c: u8) -> bool
     wanted.without(u).join(avoided.common(u)).is_empty()
 }
 
-// Some of the first `count` worlds is beyond m.
+// Some of the first `count` worlds is beyond m; most often a late one is.
 fn any_beyond(sets: &[u64], count: usize, m: AtomSet, a: u8, b: u8, c: u8) -> bool
     requires { ⌜ (a < limit) × (has (num m) a ≡ false) ⌝ }
     ensures { λ r. ⌜ r ≡ any (beyond (record { a = a; b = b; c = c }) (num m)) (tabulate (rowOf (now (sets .entry))) count) ⌝ }
 {
-    let mut i = 0;
-    while i < count {
+    let mut i = count;
+    while 0 < i {
+        i -= 1;
         if is_beyond(m, atoms::row(sets, i), a, b, c) {
             return true;
         }
-        i += 1;
     }
     false
 }

@@ -1,7 +1,7 @@
 -- Laws of what is known: it grows, and what is left falls.
 use mathlib.Core.Bool.{false, _&&_}
 use mathlib.Core.Path.{_≡_}
-use Prim.Native.Nat.{ℕ, suc, _+_, _-_, _^_, _<_}
+use Prim.Native.Nat.{ℕ, suc, _+_, _-_, _^_, _≤_, _<_}
 use native.Mathlib.Decide.{decLt}
 use native.Mathlib.Nat.{le-refl, le-trans}
 use native.Mathlib.Omega.{arith}
@@ -44,6 +44,9 @@ room-falls y x y2 x2 f p q e = elim (decLt (y + x) (y2 + x2)) [
   | yes k ↦ omega (arith, proper-room y x f)
   | no k ↦ absurd (false-T e (T-and (eqb y2 y) (eqb x2 x) (true-T (eq-eqb y2 y (omega (arith, bits-le y y2 p, bits-le x x2 q)))) (true-T (eq-eqb x2 x (omega (arith, bits-le y y2 p, bits-le x x2 q))))))
 ]
+
+pub room-kept : (y x y2 x2 : ℕ) → Within y y2 → Within x x2 → 2 ^ suc limit - (y2 + x2) ≤ 2 ^ suc limit - (y + x)
+room-kept y x y2 x2 p q = omega (arith, bits-le y y2 p, bits-le x x2 q)
 
 -- ---- both of two, and part of one
 

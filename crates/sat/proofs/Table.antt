@@ -3,21 +3,22 @@ use mathlib.Core.Bool.{Bool, true, false, not, _||_}
 use mathlib.Core.List.{List, [], _∷_, _++_}
 use mathlib.Core.Logic.{_↔_, inl, inr}
 use mathlib.Core.Path.{_≡_, refl, ap, _∙_, subst, ap₂}
-use Prim.Native.Nat.{ℕ, zero, suc, _+_, _-_, _<_, max}
+use Prim.Native.Nat.{ℕ, zero, suc, _+_, _-_, _<_, min, max}
 use native.Mathlib.Decide.{decLe}
-use native.Mathlib.Nat.{not-suc-le-zero}
+use native.Mathlib.Nat.{le-refl, not-suc-le-zero}
 use native.Mathlib.Numerals.{add-one}
 use native.Mathlib.Omega.{arith}
-use lib.Dec.{T, T-not}
-use Rattle.atoms.specs.Sets.{bitAt, union, minus, within, meets}
+use lib.Dec.{T, T-not, not-T, eqb, eqb→eq}
+use borrow.Author.Tests.{eq-eqb}
+use Rattle.atoms.specs.Sets.{bitAt, union, common, minus, within, meets}
 use Rattle.atoms.specs.Words.{rowOf, rowCount, RowSet}
-use Rattle.atoms.proofs.Truth.{T-left, T-right, T-and, T-or, T-false, true-T, false-T}
-use Rattle.atoms.proofs.Bits.{bit-le, bit-or, bit-minus}
+use Rattle.atoms.proofs.Truth.{T-left, T-right, T-and, T-or, T-false, T-iff, T-dne, true-T, false-T}
+use Rattle.atoms.proofs.Bits.{bit-le, bit-zero, bit-and, bit-or, bit-minus, bit-ext}
 use Rattle.atoms.proofs.Members.{has-bit, bit-has, within-bits, bits-within, has-meets, meets-has}
 use Rattle.ipl.specs.Clause.{satisfies}
 use Rattle.ipl.specs.Lists.{All}
 use Rattle.ipl.proofs.Lists.{All-tabulate, tabulate-more}
-use Rattle.sat.specs.Table.{clauseAt, clauses, allHold, Apart, Meets, Holds, AllHold}
+use Rattle.sat.specs.Table.{clauseAt, clauses, allHold, Apart, Meets, Holds, AllHold, Passed}
 
 -- ---- the operations, by a result's equation
 
@@ -40,6 +41,21 @@ apart-of a b e i = elim (decLe (bitAt a i + bitAt b i) 1) [
   | yes k ↦ k
   | no k ↦ absurd (false-T e (Meets-meets a b (i, omega (arith, bit-le a i, bit-le b i), omega (arith, bit-le a i, bit-le b i))))
 ]
+
+-- ---- passing over rows
+
+module _ (Q : ℕ → Type 0) where
+  pub passed-none : (from : ℕ) → Passed Q from from
+  passed-none from = record { after = le-refl _; passed = λ i h l. absurd (omega arith) }
+
+  pub passed-more : (from i : ℕ) → Passed Q from i → Q i → Passed Q from (i + 1)
+  passed-more from i w q = record {
+    after = omega (arith, w .after);
+    passed = λ k h l. elim (decLe (suc k) i) [
+      | yes m ↦ w .passed k h m
+      | no m ↦ let e : i ≡ k = omega arith in subst Q e q
+    ];
+  }
 
 -- ---- one clause more
 
@@ -68,14 +84,26 @@ holds-satisfies l r m h = go (within l m) refl
     go false e = tt
     go true e = Meets-meets r m (h (within-bits l m (true-T e)))
 
--- By the test of the left side first.
-pub satisfies-in : (l r m : ℕ) → within l m ≡ true → satisfies m (record { left = l; right = r }) ≡ meets r m
-unfolding satisfies
-satisfies-in l r m e = rw e
+-- By one test: l has an atom outside m, or r one in m.
+pub satisfies-tested : (l r m : ℕ) → not (eqb (union (minus l m) (common r m)) 0) ≡ satisfies m (record { left = l; right = r })
+satisfies-tested l r m = T-iff (not (eqb told 0)) (satisfies m (record { left = l; right = r })) to from
+  where
+    told : ℕ
+    told = union (minus l m) (common r m)
 
-pub satisfies-out : (l r m : ℕ) → within l m ≡ false → satisfies m (record { left = l; right = r }) ≡ true
-unfolding satisfies
-satisfies-out l r m e = rw e
+    at : (i : ℕ) → bitAt told i ≡ max (bitAt l i - bitAt m i) (min (bitAt r i) (bitAt m i))
+    at i = bit-or (minus l m) (common r m) i ∙ ap₂ max (bit-minus l m i) (bit-and r m i)
+
+    to : T (not (eqb told 0)) → T (satisfies m (record { left = l; right = r }))
+    to t = holds-satisfies l r m (λ w. meets-Meets r m (T-dne (meets r m) (λ n.
+        let none = apart-of r m (T-false (meets r m) (T-not (meets r m) n)) in
+        T-not (eqb told 0) t (true-T (eq-eqb told 0 (bit-ext told 0 (λ i. omega (arith, at i, w i, none i, bit-zero i))))))))
+
+    from : T (satisfies m (record { left = l; right = r })) → T (not (eqb told 0))
+    from t = not-T (eqb told 0) (λ z.
+        let none : (i : ℕ) → bitAt told i ≡ 0 = λ i. ap (λ (x : ℕ). bitAt x i) (eqb→eq told 0 z) ∙ bit-zero i in
+        let w = satisfies-holds l r m t (λ i. omega (arith, at i, none i)) in
+        omega (arith, at (w .0), none (w .0), w .1, w .2))
 
 module _ (left right : List ℕ) where
   all-hold-at : (m count : ℕ) → T (allHold left right m count) → AllHold left right count m
@@ -99,6 +127,9 @@ module _ (left right : List ℕ) where
 
   -- Row i, read as l and r, with its test's outcome.
   module _ (m i l r : ℕ) (el : l ≡ rowOf left i) (er : r ≡ rowOf right i) where
+    pub row-holds : (count : ℕ) → i < count → AllHold left right count m → Holds l r m
+    row-holds count k h = rw (el, er) (h i k)
+
     pub all-hold-next : allHold left right m i ≡ true → satisfies m (record { left = l; right = r }) ≡ true → allHold left right m (i + 1) ≡ true
     unfolding allHold
     all-hold-next h e = rw (add-one i, ← el, ← er, h, e)
@@ -106,7 +137,7 @@ module _ (left right : List ℕ) where
     pub all-hold-fails : (count : ℕ) → i < count → satisfies m (record { left = l; right = r }) ≡ false → allHold left right m count ≡ false
     all-hold-fails count k e =
         T-false (allHold left right m count) (λ t.
-        false-T e (holds-satisfies l r m (rw (el, er) (all-hold-at m count t i k))))
+        false-T e (holds-satisfies l r m (row-holds count k (all-hold-at m count t))))
 
   pub all-hold-clauses : (m count : ℕ) → AllHold left right count m ↔ All (λ f. T (satisfies m f)) (clauses left right count)
   unfolding clauses

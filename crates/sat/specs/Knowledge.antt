@@ -2,11 +2,11 @@
 use mathlib.Core.Bool.{Bool, false, _&&_}
 use mathlib.Core.List.{List}
 use mathlib.Core.Path.{_≡_}
-use Prim.Native.Nat.{ℕ, _^_, _≤_, _<_}
+use Prim.Native.Nat.{ℕ, _^_, _<_}
 use lib.Dec.{eqb}
 use Rattle.atoms.specs.Sets.{limit, union, common, minus, withoutLowest}
 use Rattle.atoms.specs.Words.{num, rowOf}
-use Rattle.sat.specs.Table.{Within, Apart}
+use Rattle.sat.specs.Table.{Within, Apart, Passed}
 use Rattle.sat.specs.declared.Partial.{Partial}
 use Rattle.sat.specs.declared.propagation.Forced.{Forced}
 use Rattle.sat.specs.declared.propagation.Forced.the-variants.{Conflict, Known}
@@ -43,10 +43,9 @@ abbrev pub mayTell : ℕ → ℕ → Partial → Bool
 mayTell l r p =
     eqb (union (union (common l (num (p .lacks))) (common r (num (p .has)))) (withoutLowest (union (minus l (num (p .has))) (minus r (num (p .lacks)))))) 0
 
--- r is from `from` on, and no clause between them may say something.
-pub record NextTelling (left right : List ℕ) (from : ℕ) (p : Partial) (r : ℕ) : Type 0 where
-  pub after : from ≤ r
-  pub passed : (i : ℕ) → from ≤ i → i < r → mayTell (rowOf left i) (rowOf right i) p ≡ false
+-- No clause from `from` on and before r may say something.
+abbrev pub PassedSilent : List ℕ → List ℕ → Partial → ℕ → ℕ → Type 0
+PassedSilent left right p = Passed (λ i. mayTell (rowOf left i) (rowOf right i) p ≡ false)
 
 -- y2 and x2 know what y and x do, and what P adds to it.
 pub record Grown (P : ℕ → Type 0) (y x y2 x2 : ℕ) : Type 0 where
@@ -60,11 +59,11 @@ abbrev pub Forces : (ℕ → Type 0) → Partial → Forced → Type 0
 Forces P p Conflict = (m : ℕ) → Fits p m → P m → ⊥
 Forces P p (Known q) = Grown P (num (p .has)) (num (p .lacks)) (num (q .has)) (num (q .lacks))
 
--- What propagation comes to: what follows from p and P, and whether the atoms had are a model.
+-- What propagation comes to: what follows from p and P, and that the atoms had are a model where it says so.
 abbrev pub Propagates : (ℕ → Type 0) → Partial → Propagated → Type 0
 Propagates P p propagated.Conflict = Forces P p Conflict
 Propagates P p (propagated.Model q) = Forces P p (Known q) × P (num (q .has))
-Propagates P p (propagated.Open q) = Forces P p (Known q) × (P (num (q .has)) → ⊥)
+Propagates P p (propagated.Open q) = Forces P p (Known q)
 
 -- No set of atoms is a model that fits both b and r.
 abbrev pub Blocks : (ℕ → Type 0) → Partial → Partial → Type 0

@@ -38,3 +38,12 @@ Holds l r m = Within l m → Meets r m
 -- Each of the first `count` clauses.
 abbrev pub AllHold : List ℕ → List ℕ → ℕ → ℕ → Type 0
 AllHold left right count m = (k : ℕ) → k < count → Holds (rowOf left k) (rowOf right k) m
+
+-- r is from `from` on, and what Q says is so of all between them.
+pub record Passed (Q : ℕ → Type 0) (from r : ℕ) : Type 0 where
+  pub after : from ≤ r
+  pub passed : (i : ℕ) → from ≤ i → i < r → Q i
+
+-- Each clause from `from` on and before r is true at m.
+abbrev pub PassedHolding : List ℕ → List ℕ → ℕ → ℕ → ℕ → Type 0
+PassedHolding left right m = Passed (λ i. Holds (rowOf left i) (rowOf right i) m)

@@ -4,18 +4,18 @@ use super::known;
 use atoms::AtomSet;
 ghost use mathlib.Core.Path.{_≡_};
 ghost use mathlib.Core.Bool.{true};
-ghost use Prim.Native.Nat.{ℕ};
+ghost use Prim.Native.Nat.{ℕ, _≤_};
 ghost use Rattle.atoms.specs.Words.{num};
 ghost use Rattle.ipl.specs.Clause.{satisfies};
-ghost use Rattle.sat.specs.Table.{Holds, AllHold, allHold};
-ghost use Rattle.sat.specs.Knowledge.{Fair, mayTell, NextTelling, Forces, Propagates, Blocks};
+ghost use Rattle.sat.specs.Table.{Holds, AllHold, allHold, PassedHolding};
+ghost use Rattle.sat.specs.Knowledge.{Fair, mayTell, PassedSilent, Forces, Propagates, Blocks};
 
 pub enum Forced {
     Conflict,
     Known(Partial),
 }
 
-// What propagation comes to: a conflict; a model, which are the atoms known to be had; or what is known where they are none.
+// What propagation comes to: a conflict; a model, which are the atoms known to be had; or what is known.
 pub enum Propagated {
     Conflict,
     Model(Partial),
@@ -41,7 +41,7 @@ fn next_telling<'a>(
     from: usize,
     p: Partial,
 ) -> usize
-    ensures { λ r. ⌜ NextTelling (now (left .entry)) (now (right .entry)) from p r ⌝ }
+    ensures { λ r. ⌜ PassedSilent (now (left .entry)) (now (right .entry)) p from r ⌝ }
 {
     if atoms::rows(left) < count {
         return from;
@@ -104,6 +104,76 @@ pub fn sweep<'a>(left: &'a [u64], right: &'a [u64], count: usize, p: Partial) ->
     Forced::Known(q)
 }
 
+// Whether a clause is true at m: m lacks an atom of its left side, or has one of its right.
+pub fn holds(l: AtomSet, r: AtomSet, m: AtomSet) -> bool
+    ensures { λ b. ⌜ b ≡ satisfies (num m) (record { left = num l; right = num r }) ⌝ }
+{
+    !l.without(m).join(r.common(m)).is_empty()
+}
+
+// The first clause from `from` on that fails at m, or the end; none is passed over in a table too short.
+fn next_failing<'a>(
+    left: &'a [u64],
+    right: &'a [u64],
+    count: usize,
+    from: usize,
+    m: AtomSet,
+) -> usize
+    ensures { λ r. ⌜ PassedHolding (now (left .entry)) (now (right .entry)) (num m) from r ⌝ }
+{
+    if atoms::rows(left) < count {
+        return from;
+    }
+    if atoms::rows(right) < count {
+        return from;
+    }
+    let mut i = from;
+    while i < count {
+        if !holds(atoms::row(left, i), atoms::row(right, i), m) {
+            return i;
+        }
+        i += 1;
+    }
+    i
+}
+
+// A clause that fails at m, looked for from `from` on and then before it; the end where none does.
+fn failing<'a>(left: &'a [u64], right: &'a [u64], count: usize, from: usize, m: AtomSet) -> usize
+    ensures { λ r. ⌜ (count ≤ r → AllHold (now (left .entry)) (now (right .entry)) count (num m)) ⌝ }
+{
+    let late = next_failing(left, right, count, from, m);
+    if late < count {
+        return late;
+    }
+    let early = next_failing(left, right, from, 0, m);
+    if early < from {
+        return early;
+    }
+    count
+}
+
+// What the clauses that fail at the atoms had add to p, until none fails, or one that does adds nothing.
+fn raise<'a>(left: &'a [u64], right: &'a [u64], count: usize, p: Partial) -> Propagated
+    requires { ⌜ Fair p ⌝ }
+    ensures { λ f. ⌜ Propagates (AllHold (now (left .entry)) (now (right .entry)) count) p f ⌝ }
+{
+    let mut q = p;
+    let mut i = failing(left, right, count, 0, p.has);
+    while i < count {
+        match unit(atoms::row(left, i), atoms::row(right, i), q) {
+            Forced::Conflict => return Propagated::Conflict,
+            Forced::Known(s) => {
+                if known::same(s, q) {
+                    return Propagated::Open(q);
+                }
+                q = s;
+            }
+        }
+        i = failing(left, right, count, i + 1, q.has);
+    }
+    Propagated::Model(q)
+}
+
 // What the clauses add to p, as far as units go, or until they all hold.
 pub fn propagate<'a>(left: &'a [u64], right: &'a [u64], count: usize, p: Partial) -> Propagated
     requires { ⌜ Fair p ⌝ }
@@ -111,18 +181,18 @@ pub fn propagate<'a>(left: &'a [u64], right: &'a [u64], count: usize, p: Partial
 {
     let mut q = p;
     loop {
-        match sweep(left, right, count, q) {
-            Forced::Conflict => return Propagated::Conflict,
-            Forced::Known(s) => {
-                let has = s.has;
-                if all_hold(left, right, count, has) {
-                    return Propagated::Model(s);
+        match raise(left, right, count, q) {
+            Propagated::Conflict => return Propagated::Conflict,
+            Propagated::Model(r) => return Propagated::Model(r),
+            Propagated::Open(r) => match sweep(left, right, count, r) {
+                Forced::Conflict => return Propagated::Conflict,
+                Forced::Known(s) => {
+                    if known::same(s, r) {
+                        return Propagated::Open(s);
+                    }
+                    q = s;
                 }
-                if known::same(s, q) {
-                    return Propagated::Open(s);
-                }
-                q = s;
-            }
+            },
         }
     }
 }
@@ -152,23 +222,16 @@ pub fn conflicts<'a>(
     }
 }
 
-// Whether a clause is true at m.
-pub fn holds(l: AtomSet, r: AtomSet, m: AtomSet) -> bool
-    ensures { λ b. ⌜ b ≡ satisfies (num m) (record { left = num l; right = num r }) ⌝ }
-{
-    if l.within(m) { r.meets(m) } else { true }
-}
-
 // Whether every clause is true at m.
 pub fn all_hold<'a>(left: &'a [u64], right: &'a [u64], count: usize, m: AtomSet) -> bool
     ensures { λ r. ⌜ r ≡ allHold (now (left .entry)) (now (right .entry)) (num m) count ⌝ }
 {
-    let mut i = 0;
-    while i < count {
-        if !holds(atoms::row(left, i), atoms::row(right, i), m) {
+    let mut k = 0;
+    while k < count {
+        if !holds(atoms::row(left, k), atoms::row(right, k), m) {
             return false;
         }
-        i += 1;
+        k += 1;
     }
     true
 }

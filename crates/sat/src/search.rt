@@ -45,7 +45,8 @@ fn dropped<'a>(
     rest
 }
 
-// The decisions that a conflict needs: each is dropped, in rising number, where it can be.
+// The decisions that a conflict needs. The last one, of the lowest atom, is needed; the others are dropped where they can be,
+// first all of them, then each in rising number.
 fn needed<'a>(
     left: &'a [u64],
     right: &'a [u64],
@@ -56,8 +57,9 @@ fn needed<'a>(
     requires { ⌜ Blocks (AllHold (now left) (now right) count) base decided ⌝ }
     ensures { λ r. ⌜ Blocks (AllHold (now (left .entry)) (now (right .entry)) count) base r × Part r decided ⌝ }
 {
-    let mut rest = decided;
-    let mut untried = known::atoms(decided);
+    let others = known::atoms(decided).without_lowest();
+    let mut rest = dropped(left, right, count, base, decided, others);
+    let mut untried = known::atoms(rest).without_lowest();
     while !untried.is_empty() {
         let higher = untried.without_lowest();
         rest = dropped(left, right, count, base, rest, untried.without(higher));
@@ -88,10 +90,14 @@ fn descend<'a>(
         }
         Propagated::Open(q) => {
             let open = known::atoms(q).complement();
-            if open.is_empty() {
-                return Step::Done(Found::Blocked(decided));
+            if !open.is_empty() {
+                return Step::Split(q, open.highest());
             }
-            Step::Split(q, open.highest())
+            let has = q.has;
+            if propagation::all_hold(left, right, count, has) {
+                return Step::Done(Found::Least(has));
+            }
+            Step::Done(Found::Blocked(decided))
         }
     }
 }

@@ -9,7 +9,7 @@ use std::io::Write;
 use std::process::{exit, Command, Stdio};
 use std::time::Instant;
 
-const TURNS: usize = 3;
+const TURNS: usize = 5;
 const PROGRAM: &str = concat!(env!("CARGO_MANIFEST_DIR"), "/../target/bin/settle");
 
 fn main() {
@@ -23,25 +23,27 @@ fn main() {
     let sets =
         [("random, of the usual size", sets::usual_size(300)), ("ILTP", sets::iltp()), ("patterns", sets::patterns())];
     for (name, formulas) in sets {
-        let times: Vec<[f64; 3]> = formulas.iter().map(|f| timed(&program, f)).collect();
+        let times = timed(&program, &formulas);
         let columns: Vec<String> = (0..3).map(|side| column(&times, side)).collect();
         println!("{name:<30} {:>8} {}", formulas.len(), columns.join(" "));
     }
 }
 
-/// The best of some turns for each side; the sides must agree.
-fn timed(program: &str, formula: &[u8]) -> [f64; 3] {
-    let sides: [&dyn Fn() -> Vec<u8>; 3] =
-        [&|| call(Task::Settle, formula), &|| run(program, formula), &|| report(&settle_text(formula)).into_bytes()];
-    let wanted = report(&settle_text(formula)).into_bytes();
-    let mut best = [f64::INFINITY; 3];
-    for _ in 0..TURNS {
-        for (side, answer) in sides.iter().enumerate() {
+/// For each formula and side the best of some turns; a turn is all formulas on one side after the other, so that a slow
+/// moment of the machine spoils one turn of a formula at most. The sides must agree.
+fn timed(program: &str, formulas: &[Vec<u8>]) -> Vec<[f64; 3]> {
+    let second = |formula: &[u8]| report(&settle_text(formula)).into_bytes();
+    let sides: [&dyn Fn(&[u8]) -> Vec<u8>; 3] = [&|f| call(Task::Settle, f), &|f| run(program, f), &second];
+    let wanted: Vec<Vec<u8>> = formulas.iter().map(|f| second(f)).collect();
+    let mut best = vec![[f64::INFINITY; 3]; formulas.len()];
+    for turn in 0..TURNS * sides.len() {
+        let side = turn % sides.len();
+        for (place, formula) in formulas.iter().enumerate() {
             let start = Instant::now();
-            let printed = answer();
+            let printed = sides[side](formula);
             let milliseconds = start.elapsed().as_secs_f64() * 1e3;
-            best[side] = best[side].min(milliseconds);
-            if printed != wanted {
+            best[place][side] = best[place][side].min(milliseconds);
+            if printed != wanted[place] {
                 eprintln!("answers differ: {}", formula.escape_ascii());
                 exit(1);
             }

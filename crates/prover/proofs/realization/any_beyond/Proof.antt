@@ -1,25 +1,26 @@
--- None of the worlds passed is beyond m.
-use mathlib.Core.Bool.{false}
+-- The worlds passed, from the last one on, count nothing: none of them is beyond m.
 use mathlib.Core.Path.{_≡_, refl, sym, ap, _∙_}
-use Prim.Native.Nat.{_≤_, _-_}
+use Prim.Native.Nat.{_-_, _≤_}
 use Rattle.atoms.specs.Words.{num, rowOf}
 use Rattle.ipl.specs.Lists.{any, tabulate}
 use Rattle.ipl.specs.Clause.{beyond}
-use Rattle.ipl.proofs.Lists.{any-next, any-found, any-end}
+use Rattle.ipl.proofs.Lists.{any-less, any-none, any-found}
 use borrow.Author.Needs.{needs}
 use native.Mathlib.Omega.{arith}
 use Rattle.prover.proofs.realization.any_beyond.Statement.{statement}
 use Rattle.prover.proofs.realization.any_beyond.Tie as tie
 
 abbrev Inv-loop : tie.InvT-loop
-Inv-loop sets count m a b c i₀ i = (i ≤ count) × (any (beyond (record { a = a; b = b; c = c }) (num m)) (tabulate (rowOf sets) i) ≡ false)
+Inv-loop sets count m a b c i₀ i = (i ≤ count) × (any (beyond (record { a = a; b = b; c = c }) (num m)) (tabulate (rowOf sets) count) ≡ any (beyond (record { a = a; b = b; c = c }) (num m)) (tabulate (rowOf sets) i))
 
 abbrev μ-loop : tie.MeasureT-loop
-μ-loop sets count m a b c i₀ i = count - i
+μ-loop sets count m a b c i₀ i = i
 
 loop-holds : tie.Need-loop-holds Inv-loop μ-loop
-unfolding any tabulate
 loop-holds c = (omega arith, refl)
+
+sub-i : tie.Need-sub-i Inv-loop μ-loop
+sub-i c = omega arith
 
 row-requires : tie.Need-row-requires Inv-loop μ-loop
 row-requires c κs = search needs
@@ -29,24 +30,25 @@ is-beyond-requires c κs = search needs
 
 returns : tie.Need-returns Inv-loop μ-loop
 returns c =
-    sym (any-found (beyond (record { a = c .before .before .before .before .before .before .args .a; b = c .before .before .before .before .before .before .args .b; c = c .before .before .before .before .before .before .args .c }) (num (c .before .before .before .before .before .before .args .m))) (rowOf (c .before .before .before .before .before .before .args .sets .now)) (c .before .before .before .before .loop .i) (c .before .before .before .before .before .before .args .count) (omega arith)
+    let l = c .before .before .before .before in
+    let s = l .before .before .args in
+    sym (any-found (beyond (record { a = s .a; b = s .b; c = s .c }) (num (s .m))) (rowOf (s .sets .now)) (l .loop .i - 1) (s .count) (omega (arith, l .loop .inv .0))
     (ap (beyond _ _) (sym (c .before .before .row .ensures)) ∙ sym (c .before .is-beyond .ensures) ∙ c .if1 .taken))
-
-add-i : tie.Need-add-i Inv-loop μ-loop
-add-i c = omega arith
 
 loop-less : tie.Need-loop-less Inv-loop μ-loop
 loop-less c = omega arith
 
 loop-again : tie.Need-loop-again Inv-loop μ-loop
-loop-again c = (
-  omega arith,
-  any-next (beyond (record { a = c .before .before .before .before .before .before .args .a; b = c .before .before .before .before .before .before .args .b; c = c .before .before .before .before .before .before .args .c }) (num (c .before .before .before .before .before .before .args .m))) (rowOf (c .before .before .before .before .before .before .args .sets .now)) (c .before .before .before .before .loop .i) (c .before .before .before .before .loop .inv .1)
-      (ap (beyond _ _) (sym (c .before .before .row .ensures)) ∙ sym (c .before .is-beyond .ensures) ∙ c .if1 .left),
-)
+loop-again c =
+    let l = c .before .before .before .before in
+    let s = l .before .before .args in (
+      omega (arith, l .loop .inv .0),
+      l .loop .inv .1 ∙ any-less (beyond (record { a = s .a; b = s .b; c = s .c }) (num (s .m))) (rowOf (s .sets .now)) (l .loop .i - 1) (l .loop .i) (omega arith)
+          (ap (beyond _ _) (sym (c .before .before .row .ensures)) ∙ sym (c .before .is-beyond .ensures) ∙ c .if1 .left),
+    )
 
 returns-2 : tie.Need-returns-2 Inv-loop μ-loop
-returns-2 c = any-end (beyond (record { a = c .before .before .before .args .a; b = c .before .before .before .args .b; c = c .before .before .before .args .c }) (num (c .before .before .before .args .m))) (rowOf (c .before .before .before .args .sets .now)) (c .before .loop .i) (c .before .before .before .args .count) (omega arith) (omega arith) (c .before .loop .inv .1)
+returns-2 c = sym (c .before .loop .inv .1 ∙ any-none _ _ (c .before .loop .i) (omega arith))
 
 pub any-beyond-spec : {M : Type 1} → statement M
 any-beyond-spec =
@@ -55,10 +57,10 @@ any-beyond-spec =
     Inv-loop
     μ-loop
     loop-holds
+    sub-i
     row-requires
     is-beyond-requires
     returns
-    add-i
     loop-less
     loop-again
     returns-2)

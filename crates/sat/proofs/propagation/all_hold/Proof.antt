@@ -12,10 +12,10 @@ use Rattle.sat.proofs.propagation.all_hold.Statement.{statement}
 use Rattle.sat.proofs.propagation.all_hold.Tie as tie
 
 abbrev Inv-loop : tie.InvT-loop
-Inv-loop left right count m i₀ i = (i ≤ count) × (allHold left right (num m) i ≡ true)
+Inv-loop left right count m k₀ k = (k ≤ count) × (allHold left right (num m) k ≡ true)
 
 abbrev μ-loop : tie.MeasureT-loop
-μ-loop left right count m i₀ i = count - i
+μ-loop left right count m k₀ k = count - k
 
 loop-holds : tie.Need-loop-holds Inv-loop μ-loop
 unfolding allHold
@@ -33,11 +33,11 @@ holds-requires c κs = search needs
 returns : tie.Need-returns Inv-loop μ-loop
 returns c =
     let r = c .before .before in
-    sym (all-hold-fails _ _ _ (r .before .before .before .loop .i) _ _ (r .before .row .ensures) (r .row2 .ensures) (r .before .before .before .before .before .before .args .count) (omega arith)
+    sym (all-hold-fails _ _ _ (r .before .before .before .loop .k) _ _ (r .before .row .ensures) (r .row2 .ensures) (r .before .before .before .before .before .before .args .count) (omega arith)
     (sym (c .before .holds .ensures) ∙ not-true _ (c .if1 .taken)))
 
-add-i : tie.Need-add-i Inv-loop μ-loop
-add-i c = omega arith
+add-k : tie.Need-add-k Inv-loop μ-loop
+add-k c = omega arith
 
 loop-less : tie.Need-loop-less Inv-loop μ-loop
 loop-less c = omega arith
@@ -47,7 +47,7 @@ loop-again c =
     let r = c .before .before in
     let l = r .before .before .before in (
       omega arith,
-      all-hold-next _ _ _ (l .loop .i) _ _ (r .before .row .ensures) (r .row2 .ensures) (l .loop .inv .1)
+      all-hold-next _ _ _ (l .loop .k) _ _ (r .before .row .ensures) (r .row2 .ensures) (l .loop .inv .1)
           (sym (c .before .holds .ensures) ∙ not-false _ (c .if1 .left)),
     )
 
@@ -59,4 +59,4 @@ returns-2 c =
 pub all-hold-spec : {M : Type 1} → statement M
 all-hold-spec =
     tie.close
-    (tie.spec Inv-loop μ-loop loop-holds row-requires row-requires-2 holds-requires returns add-i loop-less loop-again returns-2)
+    (tie.spec Inv-loop μ-loop loop-holds row-requires row-requires-2 holds-requires returns add-k loop-less loop-again returns-2)

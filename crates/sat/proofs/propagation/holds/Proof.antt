@@ -1,21 +1,31 @@
--- A clause is true where its left side is not within m, or its right side meets m.
+-- What the code joins is not empty exactly where the clause is true.
 use borrow.Author.Needs.{needs}
-use mathlib.Core.Path.{sym, _∙_}
-use Rattle.sat.proofs.Table.{satisfies-in, satisfies-out}
+use mathlib.Core.Bool.{not}
+use mathlib.Core.Path.{ap, ap₂, _∙_}
+use Prim.Native.Nat.{ℕ}
+use lib.Dec.{eqb}
+use Rattle.atoms.specs.Sets.{union}
+use Rattle.sat.proofs.Table.{satisfies-tested}
 use Rattle.sat.proofs.propagation.holds.Statement.{statement}
 use Rattle.sat.proofs.propagation.holds.Tie as tie
 
-within-requires : tie.Need-within-requires
-within-requires c κs = search needs
+without-requires : tie.Need-without-requires
+without-requires c κs = search needs
 
-meets-requires : tie.Need-meets-requires
-meets-requires c κs = search needs
+common-requires : tie.Need-common-requires
+common-requires c κs = search needs
+
+join-requires : tie.Need-join-requires
+join-requires c κs = search needs
+
+is-empty-requires : tie.Need-is-empty-requires
+is-empty-requires c κs = search needs
 
 returns : tie.Need-returns
-returns c = c .meets .ensures ∙ sym (satisfies-in _ _ _ (sym (c .before .before .within .ensures) ∙ c .before .if1 .taken))
-
-returns-2 : tie.Need-returns-2
-returns-2 c = sym (satisfies-out _ _ _ (sym (c .before .within .ensures) ∙ c .if1 .left))
+returns c =
+    ap not (c .is-empty .ensures
+    ∙ ap (λ (z : ℕ). eqb z 0) (c .before .join .ensures ∙ ap₂ union (c .before .before .before .without .ensures) (c .before .before .common .ensures)))
+    ∙ satisfies-tested _ _ _
 
 pub holds-spec : {M : Type 1} → statement M
-holds-spec = tie.close (tie.spec within-requires meets-requires returns returns-2)
+holds-spec = tie.close (tie.spec without-requires common-requires join-requires is-empty-requires returns)

@@ -1,18 +1,15 @@
 -- No clause passed may say something.
 use borrow.Author.Needs.{needs}
-use mathlib.Core.Bool.{false}
-use mathlib.Core.Path.{_≡_, sym, ap₂, _∙_, subst}
-use native.Mathlib.Decide.{decLt}
-use native.Mathlib.Nat.{le-refl}
+use mathlib.Core.Path.{sym, ap₂, _∙_}
 use native.Mathlib.Omega.{arith}
 use Prim.Native.Nat.{ℕ, _-_}
-use Rattle.atoms.specs.Words.{rowOf}
-use Rattle.sat.specs.Knowledge.{mayTell, NextTelling}
+use Rattle.sat.specs.Knowledge.{mayTell, PassedSilent}
+use Rattle.sat.proofs.Table.{passed-none, passed-more}
 use Rattle.sat.proofs.propagation.next_telling.Statement.{statement}
 use Rattle.sat.proofs.propagation.next_telling.Tie as tie
 
 abbrev Inv-loop : tie.InvT-loop
-Inv-loop left right count from p i₀ i = NextTelling left right from p i
+Inv-loop left right count from p i₀ i = PassedSilent left right p from i
 
 abbrev μ-loop : tie.MeasureT-loop
 μ-loop left right count from p i₀ i = count - i
@@ -21,16 +18,16 @@ rows-requires : tie.Need-rows-requires Inv-loop μ-loop
 rows-requires c κs = search needs
 
 returns : tie.Need-returns Inv-loop μ-loop
-returns c = record { after = le-refl _; passed = λ i h l. absurd (omega arith) }
+returns c = passed-none _ _
 
 rows-requires-2 : tie.Need-rows-requires-2 Inv-loop μ-loop
 rows-requires-2 c κs = search needs
 
 returns-2 : tie.Need-returns-2 Inv-loop μ-loop
-returns-2 c = record { after = le-refl _; passed = λ i h l. absurd (omega arith) }
+returns-2 c = passed-none _ _
 
 loop-holds : tie.Need-loop-holds Inv-loop μ-loop
-loop-holds c = record { after = le-refl _; passed = λ i h l. absurd (omega arith) }
+loop-holds c = passed-none _ _
 
 row-requires : tie.Need-row-requires Inv-loop μ-loop
 row-requires c κs = search needs
@@ -55,15 +52,8 @@ loop-again c =
     let t = c .before in
     let l = t .before .before .before .before in
     let s = l .before .before .before .before .before .before .before .args in
-    let silent : mayTell (rowOf (s .left .now) (l .loop .i)) (rowOf (s .right .now) (l .loop .i)) (s .p) ≡ false =
-    sym (t .may-tell .ensures ∙ ap₂ (λ (x y : ℕ). mayTell x y (s .p)) (t .before .before .row .ensures) (t .before .row2 .ensures)) ∙ c .if3 .left in
-    record {
-      after = omega (arith, l .loop .inv .after);
-      passed = λ i h k. elim (decLt i (l .loop .i)) [
-        | yes m ↦ l .loop .inv .passed i h m
-        | no m ↦ let e : l .loop .i ≡ i = omega arith in subst (λ (j : ℕ). mayTell (rowOf (s .left .now) j) (rowOf (s .right .now) j) (s .p) ≡ false) e silent
-      ];
-    }
+    passed-more _ _ _ (l .loop .inv)
+    (sym (t .may-tell .ensures ∙ ap₂ (λ (x y : ℕ). mayTell x y (s .p)) (t .before .before .row .ensures) (t .before .row2 .ensures)) ∙ c .if3 .left)
 
 returns-4 : tie.Need-returns-4 Inv-loop μ-loop
 returns-4 c = c .before .loop .inv

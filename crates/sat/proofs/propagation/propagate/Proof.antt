@@ -1,15 +1,14 @@
--- Sweeps until all clauses hold or nothing changes; what is left unknown falls with each.
+-- Clauses that fail, then all, until all hold or nothing changes; what is left unknown falls with each.
 use borrow.Author.Needs.{needs}
 use mathlib.Core.Path.{sym, _∙_, subst}
+use native.Mathlib.Nat.{lt-of-lt-of-le}
 use Prim.Native.Nat.{suc, _+_, _-_, _^_}
 use Rattle.atoms.specs.Sets.{limit}
 use Rattle.atoms.specs.Words.{num}
-use Rattle.atoms.proofs.Truth.{true-T, false-T}
 use Rattle.sat.specs.Table.{AllHold}
-use Rattle.sat.specs.Knowledge.{Forces}
+use Rattle.sat.specs.Knowledge.{Forces, Propagates}
 use Rattle.sat.specs.declared.propagation.Forced.the-variants.{Known}
-use Rattle.sat.proofs.Table.{all-hold-iff}
-use Rattle.sat.proofs.Knowledge.{grown-refl, grown-trans, room-falls}
+use Rattle.sat.proofs.Knowledge.{grown-refl, grown-trans, room-falls, room-kept}
 use Rattle.sat.proofs.propagation.propagate.Statement.{statement}
 use Rattle.sat.proofs.propagation.propagate.Tie as tie
 
@@ -22,51 +21,72 @@ abbrev μ-loop : tie.MeasureT-loop
 loop-holds : tie.Need-loop-holds Inv-loop μ-loop
 loop-holds c = grown-refl _ _ _ (c .before .before .pre)
 
-sweep-requires : tie.Need-sweep-requires Inv-loop μ-loop
-sweep-requires c κs = c .loop .inv .proper
+raise-requires : tie.Need-raise-requires Inv-loop μ-loop
+raise-requires c κs = c .loop .inv .proper
 
 enum-told : tie.Need-enum-told Inv-loop μ-loop
 enum-told c = search needs
 
 returns : tie.Need-returns Inv-loop μ-loop
-returns c m e h = subst (Forces _ _) (c .enum-told .given .1) (c .before .before .sweep .ensures) m (c .before .before .before .loop .inv .keeps m e h) h
+returns c m e h = subst (Propagates _ _) (c .enum-told .given .1) (c .before .before .raise .ensures) m (c .before .before .before .loop .inv .keeps m e h) h
+
+enum-known-r : tie.Need-enum-known-r Inv-loop μ-loop
+enum-known-r c = search needs
+
+returns-2 : tie.Need-returns-2 Inv-loop μ-loop
+returns-2 c =
+    let r = c .before .before .before in
+    let model = subst (Propagates _ _) (c .before .r .given .1) (r .raise .ensures) in
+    (grown-trans _ (r .before .loop .inv) (model .0), model .1)
+
+enum-known-r-2 : tie.Need-enum-known-r-2 Inv-loop μ-loop
+enum-known-r-2 c = search needs
+
+-- What the clauses that fail add.
+raised : (c : tie.After-r2 Inv-loop μ-loop) → let l = c .before .before .before in let a = l .before .before .before .args in
+    Forces (AllHold (a .left .now) (a .right .now) (a .count)) (l .loop .q) (Known (c .r2 .given .0 .0))
+raised c = subst (Propagates _ _) (c .r2 .given .1) (c .before .before .raise .ensures)
+
+sweep-requires : tie.Need-sweep-requires Inv-loop μ-loop
+sweep-requires c κs = raised (c .before) .proper
+
+enum-told-2 : tie.Need-enum-told-2 Inv-loop μ-loop
+enum-told-2 c = search needs
+
+returns-3 : tie.Need-returns-3 Inv-loop μ-loop
+returns-3 c m e h =
+    let r = c .before .before .before .before in
+    subst (Forces _ _) (c .enum-told2 .given .1) (c .before .before .sweep .ensures) m (raised r .keeps m (r .before .before .before .loop .inv .keeps m e h) h) h
 
 enum-known-s : tie.Need-enum-known-s Inv-loop μ-loop
 enum-known-s c = search needs
 
-all-hold-requires : tie.Need-all-hold-requires Inv-loop μ-loop
-all-hold-requires c κs = search needs
+-- What the sweep adds to it.
+swept : (c : tie.After-s Inv-loop μ-loop) → let r = c .before .before .before .before in let a = r .before .before .before .before .before .before .args in
+    Forces (AllHold (a .left .now) (a .right .now) (a .count)) (r .r2 .given .0 .0) (Known (c .s .given .0 .0))
+swept c = subst (Forces _ _) (c .s .given .1) (c .before .before .sweep .ensures)
 
--- What the sweep adds.
-added : (c : tie.After-s Inv-loop μ-loop) → Forces (AllHold (c .before .before .before .before .before .before .args .left .now) (c .before .before .before .before .before .before .args .right .now) (c .before .before .before .before .before .before .args .count)) (c .before .before .before .loop .q) (Known (c .s .given .0 .0))
-added c = subst (Forces _ _) (c .s .given .1) (c .before .before .sweep .ensures)
-
-returns-2 : tie.Need-returns-2 Inv-loop μ-loop
-returns-2 c =
-    let s = c .before .before .before .before in (
-      grown-trans _ (s .before .before .before .loop .inv) (added s),
-      all-hold-iff _ _ _ _ .0 (true-T (sym (c .before .all-hold .ensures) ∙ c .if1 .taken)),
-    )
+-- What is known then.
+grown : (c : tie.After-s Inv-loop μ-loop) → let a = c .before .before .before .before .before .before .before .before .before .before .args in
+    Forces (AllHold (a .left .now) (a .right .now) (a .count)) (a .p) (Known (c .s .given .0 .0))
+grown c = let r = c .before .before .before .before in grown-trans _ (grown-trans _ (r .before .before .before .loop .inv) (raised r)) (swept c)
 
 same-requires : tie.Need-same-requires Inv-loop μ-loop
 same-requires c κs = search needs
 
-returns-3 : tie.Need-returns-3 Inv-loop μ-loop
-returns-3 c =
-    let e = c .before .before in
-    let s = e .before .before .before .before in (
-      grown-trans _ (s .before .before .before .loop .inv) (added s),
-      λ h. false-T (sym (e .before .all-hold .ensures) ∙ e .if1 .left) (all-hold-iff _ _ _ _ .1 h),
-    )
+returns-4 : tie.Need-returns-4 Inv-loop μ-loop
+returns-4 c = grown (c .before .before .before)
 
 loop-less : tie.Need-loop-less Inv-loop μ-loop
 loop-less c =
-    let s = c .before .before .before .before .before .before in
-    let g = added s in
-    room-falls _ _ _ _ (s .before .before .before .loop .inv .proper) (g .more-has) (g .more-lacks) (sym (c .before .same .ensures) ∙ c .if2 .left)
+    let s = c .before .before .before in
+    let r = s .before .before .before .before in
+    lt-of-lt-of-le
+    (room-falls _ _ _ _ (raised r .proper) (swept s .more-has) (swept s .more-lacks) (sym (c .before .same .ensures) ∙ c .if1 .left))
+    (room-kept _ _ _ _ (raised r .more-has) (raised r .more-lacks))
 
 loop-again : tie.Need-loop-again Inv-loop μ-loop
-loop-again c = let s = c .before .before .before .before .before .before in grown-trans _ (s .before .before .before .loop .inv) (added s)
+loop-again c = grown (c .before .before .before)
 
 pub propagate-spec : {M : Type 1} → statement M
 propagate-spec =
@@ -75,13 +95,17 @@ propagate-spec =
     Inv-loop
     μ-loop
     loop-holds
-    sweep-requires
+    raise-requires
     enum-told
     returns
-    enum-known-s
-    all-hold-requires
+    enum-known-r
     returns-2
-    same-requires
+    enum-known-r-2
+    sweep-requires
+    enum-told-2
     returns-3
+    enum-known-s
+    same-requires
+    returns-4
     loop-less
     loop-again)

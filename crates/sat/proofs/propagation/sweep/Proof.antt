@@ -7,6 +7,7 @@ use Rattle.atoms.specs.Words.{num}
 use Rattle.sat.specs.Table.{Holds, AllHold}
 use Rattle.sat.specs.Knowledge.{Forces}
 use Rattle.sat.specs.declared.propagation.Forced.the-variants.{Known}
+use Rattle.sat.proofs.Table.{row-holds}
 use Rattle.sat.proofs.Knowledge.{grown-refl, grown-trans, grown-weaken}
 use Rattle.sat.proofs.propagation.sweep.Statement.{statement}
 use Rattle.sat.proofs.propagation.sweep.Tie as tie
@@ -35,16 +36,10 @@ unit-requires c κs = c .before .before .before .loop .inv .proper
 enum-told : tie.Need-enum-told Inv-loop μ-loop
 enum-told c = search needs
 
--- The clause in row i is one of all.
-clause : (c : tie.After-row2 Inv-loop μ-loop) → (m : ℕ)
-    → AllHold (c .before .before .before .before .before .before .before .args .left .now) (c .before .before .before .before .before .before .before .args .right .now) (c .before .before .before .before .before .before .before .args .count) m
-    → Holds (num (c .before .row .result)) (num (c .row2 .result)) m
-clause c m h = rw (c .before .row .ensures, c .row2 .ensures) (h (c .before .before .before .loop .i) (omega arith))
-
 returns : tie.Need-returns Inv-loop μ-loop
 returns c m e h =
     let u = c .before .before in
-    subst (Forces _ _) (c .enum-told .given .1) (u .unit .ensures) m (u .before .before .before .before .loop .inv .keeps m e h) (clause (u .before) m h)
+    subst (Forces _ _) (c .enum-told .given .1) (u .unit .ensures) m (u .before .before .before .before .loop .inv .keeps m e h) (row-holds _ _ m _ _ _ (u .before .before .row .ensures) (u .before .row2 .ensures) _ (omega arith) h)
 
 enum-known-s : tie.Need-enum-known-s Inv-loop μ-loop
 enum-known-s c = search needs
@@ -61,7 +56,7 @@ loop-less c = omega (arith, c .next-telling2 .ensures .after)
 loop-again : tie.Need-loop-again Inv-loop μ-loop
 loop-again c =
     let u = c .before .before .before .before in
-    grown-trans _ (u .before .before .before .before .loop .inv) (grown-weaken _ _ (clause (u .before)) (subst (Forces _ _) (c .before .before .s .given .1) (u .unit .ensures)))
+    grown-trans _ (u .before .before .before .before .loop .inv) (grown-weaken _ _ (λ m h. row-holds _ _ m _ _ _ (u .before .before .row .ensures) (u .before .row2 .ensures) _ (omega arith) h) (subst (Forces _ _) (c .before .before .s .given .1) (u .unit .ensures)))
 
 returns-2 : tie.Need-returns-2 Inv-loop μ-loop
 returns-2 c = c .before .loop .inv

@@ -1,18 +1,21 @@
 -- Each way out cites a law of Descent, at what propagation leaves.
 use borrow.Author.Needs.{needs}
-use borrow.Author.Tests.{eqb-true}
+use borrow.Author.Tests.{eqb-true, not-true, not-false}
 use mathlib.Core.Path.{sym, _∙_, subst}
+use Rattle.atoms.proofs.Truth.{true-T, false-T}
 use Rattle.sat.specs.Table.{AllHold}
-use Rattle.sat.specs.Knowledge.{Propagates}
-use Rattle.sat.specs.declared.propagation.Propagated.the-variants.{Open}
+use Rattle.sat.specs.Knowledge.{Forces, Propagates}
+use Rattle.sat.specs.declared.propagation.Forced.the-variants.{Known}
 use Rattle.sat.proofs.Clause.{positive}
+use Rattle.sat.proofs.Table.{all-hold-iff}
 use Rattle.sat.proofs.Knowledge.{part-refl}
 use Rattle.sat.proofs.Descent.{known-least, known-none, conflict-blocks, none-open, pick-highest}
 use Rattle.sat.proofs.search.descend.Statement.{statement}
 use Rattle.sat.proofs.search.descend.Tie as tie
 
 -- What is known where no model is found yet.
-left-open : (c : tie.After-q2) → Propagates (AllHold (c .before .before .before .before .before .args .left .now) (c .before .before .before .before .before .args .right .now) (c .before .before .before .before .before .args .count)) (c .before .before .before .before .before .args .known) (Open (c .q2 .given .0 .0))
+left-open : (c : tie.After-q2) → let a = c .before .before .before .before .before .args in
+    Forces (AllHold (a .left .now) (a .right .now) (a .count)) (a .known) (Known (c .q2 .given .0 .0))
 left-open c = subst (Propagates _ _) (c .q2 .given .1) (c .before .before .propagate .ensures)
 
 propagate-requires : tie.Need-propagate-requires
@@ -41,36 +44,45 @@ complement-requires c κs = search needs
 is-empty-requires : tie.Need-is-empty-requires
 is-empty-requires c κs = search needs
 
-returns : tie.Need-returns
-returns c =
-    let q = c .before .before .before .before .before in
-    let o = left-open q in (
-      known-none _ _ _ _ _ (q .before .before .before .before .before .pre) (o .0)
-          (none-open _ _ _ _ (c .before .before .before .atoms .ensures) (c .before .before .complement .ensures) (eqb-true _ _ (sym (c .before .is-empty .ensures) ∙ c .if1 .taken)))
-          (o .1),
-      part-refl _,
-    )
-
 highest-requires : tie.Need-highest-requires
 highest-requires c κs = search needs
 
+returns : tie.Need-returns
+returns c =
+    let e = c .before .before in
+    record {
+      grown = left-open (e .before .before .before .before);
+      pick = pick-highest _ _ _ _ (e .before .before .atoms .ensures) (e .before .complement .ensures) _
+          (c .highest .ensures .highest (positive _ (sym (e .is-empty .ensures) ∙ not-true _ (c .before .if1 .taken))));
+    }
+
+all-hold-requires : tie.Need-all-hold-requires
+all-hold-requires c κs = search needs
+
 returns-2 : tie.Need-returns-2
-returns-2 c = search needs
+returns-2 c =
+    let q = c .before .before .before .before .before .before .before .before in
+    known-least _ _ _ _ _ (left-open q) (all-hold-iff _ _ _ _ .0 (true-T (sym (c .before .all-hold .ensures) ∙ c .if2 .taken)))
 
 returns-3 : tie.Need-returns-3
-returns-3 c =
+returns-3 c = search needs
+
+returns-4 : tie.Need-returns-4
+returns-4 c =
     let q = c .before .before in
     let m = subst (Propagates _ _) (q .q .given .1) (q .before .before .propagate .ensures) in
     known-least _ _ _ _ _ (m .0) (m .1)
 
-returns-4 : tie.Need-returns-4
-returns-4 c =
-    let e = c .before in
-    record {
-      grown = left-open (e .before .before .before .before .before) .0;
-      pick = pick-highest _ _ _ _ (e .before .before .before .atoms .ensures) (e .before .before .complement .ensures) _
-          (c .highest .ensures .highest (positive _ (sym (e .before .is-empty .ensures) ∙ e .if1 .left)));
-    }
+returns-5 : tie.Need-returns-5
+returns-5 c =
+    let e = c .before .before .before in
+    let o = e .before in
+    let q = o .before .before .before .before in (
+      known-none _ _ _ _ _ (q .before .before .before .before .before .pre) (left-open q)
+          (none-open _ _ _ _ (o .before .before .atoms .ensures) (o .before .complement .ensures) (eqb-true _ _ (sym (o .is-empty .ensures) ∙ not-false _ (e .if1 .left))))
+          (λ h. false-T (sym (c .before .all-hold .ensures) ∙ c .if2 .left) (all-hold-iff _ _ _ _ .1 h)),
+      part-refl _,
+    )
 
 pub descend-spec : {M : Type 1} → statement M
 descend-spec =
@@ -84,8 +96,10 @@ descend-spec =
     atoms-requires
     complement-requires
     is-empty-requires
-    returns
     highest-requires
+    returns
+    all-hold-requires
     returns-2
     returns-3
-    returns-4)
+    returns-4
+    returns-5)
