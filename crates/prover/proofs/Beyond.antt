@@ -1,21 +1,50 @@
--- A world beyond another, as the code tests it: nothing wanted is missing, and nothing avoided is there.
-use mathlib.Core.Bool.{not, false, _&&_}
+-- Whether an implication is realized, as the code tests it: a world that has one of its atoms, by one test; a world beyond another, where
+-- nothing wanted is missing and nothing avoided is there.
+use mathlib.Core.Bool.{not, false, _&&_, _||_}
 use mathlib.Core.Logic.{_⊎_, inl, inr}
-use mathlib.Core.Path.{_≡_, sym, ap, _∙_, subst}
+use mathlib.Core.Path.{_≡_, sym, ap, ap₂, _∙_, subst}
 use Prim.Native.Nat.{ℕ, _^_, _<_}
 use native.Mathlib.Decide.{decLt}
 use native.Mathlib.Omega.{arith}
 use lib.Dec.{T, T-not, not-T, eqb, eqb→eq, eqb-refl}
 use borrow.Author.Tests.{eq-eqb}
-use Rattle.atoms.specs.Sets.{limit, has, union, common, minus, within}
+use Rattle.atoms.specs.Sets.{limit, has, union, common, minus, within, meets}
 use Rattle.atoms.specs.Words.{singleOrEmpty}
 use Rattle.atoms.proofs.Truth.{T-left, T-right, T-and, T-or, T-inl, T-inr, T-false, T-iff, T-dne, true-T, false-T}
 use Rattle.atoms.proofs.Machine.{single-bits, has-single-or-empty}
-use Rattle.atoms.proofs.Members.{ext, has-past, has-empty, has-and, has-union, has-minus, has-single, within-has, has-within}
+use Rattle.atoms.proofs.Members.{ext, has-past, has-below, has-empty, has-and, has-union, has-minus, has-single, within-has, has-within, has-meets, meets-has}
 use Rattle.ipl.specs.Clause.{Implication, beyond}
 
 single-has : (i : ℕ) → i < limit → T (has (singleOrEmpty i) i)
 single-has i h = rw (single-bits i h, has-single i i) (eqb-refl i)
+
+module _ (M : ℕ) (bounded : M < 2 ^ limit) where
+  single-meets : (i : ℕ) → meets (singleOrEmpty i) M ≡ has M i
+  single-meets i =
+      T-iff (meets (singleOrEmpty i) M) (has M i)
+      (λ t. let r = meets-has (singleOrEmpty i) M t in subst (λ (k : ℕ). T (has M k)) (sym (has-single-or-empty i (r .0) (r .1))) (r .2))
+      (λ t. has-meets (singleOrEmpty i) M i (single-has i (has-below limit M i bounded t)) t)
+
+  union-meets : (s t : ℕ) → meets (union s t) M ≡ meets s M || meets t M
+  union-meets s t = T-iff (meets (union s t) M) (meets s M || meets t M) apart joined
+    where
+      apart : T (meets (union s t) M) → T (meets s M || meets t M)
+      apart h = let r = meets-has (union s t) M h in elim (T-or (has s (r .0)) (has t (r .0)) (subst T (has-union s t (r .0)) (r .1))) [
+        | inl p ↦ T-inl (meets s M) (meets t M) (has-meets s M (r .0) p (r .2))
+        | inr p ↦ T-inr (meets s M) (meets t M) (has-meets t M (r .0) p (r .2))
+      ]
+
+      joined : T (meets s M || meets t M) → T (meets (union s t) M)
+      joined h = elim (T-or (meets s M) (meets t M) h) [
+        | inl p ↦ let r = meets-has s M p in has-meets (union s t) M (r .0) (subst T (sym (has-union s t (r .0))) (T-inl (has s (r .0)) (has t (r .0)) (r .1))) (r .2)
+        | inr p ↦ let r = meets-has t M p in has-meets (union s t) M (r .0) (subst T (sym (has-union s t (r .0))) (T-inr (has s (r .0)) (has t (r .0)) (r .1))) (r .2)
+      ]
+
+  -- M has one of three atoms.
+  pub own-tested : (a b c : ℕ) → meets (union (union (singleOrEmpty a) (singleOrEmpty b)) (singleOrEmpty c)) M ≡ has M a || has M b || has M c
+  own-tested a b c =
+      union-meets (union (singleOrEmpty a) (singleOrEmpty b)) (singleOrEmpty c)
+      ∙ ap₂ _||_ (union-meets (singleOrEmpty a) (singleOrEmpty b) ∙ ap₂ _||_ (single-meets a) (single-meets b)) (single-meets c)
 
 module _ (i : Implication) (M U : ℕ) where
   -- The atoms wanted, and what keeps U from being beyond M.

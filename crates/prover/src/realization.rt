@@ -43,13 +43,11 @@ fn realized(sets: &[u64], count: usize, m: AtomSet, a: u8, b: u8, c: u8) -> bool
     requires { ⌜ a < limit ⌝ }
     ensures { λ r. ⌜ r ≡ realizes (tabulate (rowOf (now (sets .entry))) count) (num m) (record { a = a; b = b; c = c }) ⌝ }
 {
-    if m.has(a) {
-        return true;
-    }
-    if m.has(b) {
-        return true;
-    }
-    if m.has(c) {
+    m.bounded();
+    let own = AtomSet::single(a)
+        .join(AtomSet::single(b))
+        .join(AtomSet::single(c));
+    if own.meets(m) {
         return true;
     }
     any_beyond(sets, count, m, a, b, c)

@@ -1,47 +1,71 @@
 -- Having a, b or c, or a world beyond.
 use Rattle.ipl.specs.Clause.{realizes}
 use borrow.Author.Needs.{needs}
-use mathlib.Core.Path.{sym, _∙_}
+use mathlib.Core.Bool.{_||_}
+use mathlib.Core.Path.{_≡_, sym, ap, ap₂, _∙_}
+use Prim.Native.Nat.{ℕ}
+use Rattle.atoms.specs.Sets.{has, union, meets}
+use Rattle.atoms.specs.Words.{num}
+use Rattle.atoms.proofs.Truth.{nor}
+use Rattle.prover.proofs.Beyond.{own-tested}
 use Rattle.prover.proofs.realization.realized.Statement.{statement}
 use Rattle.prover.proofs.realization.realized.Tie as tie
 
-has-requires : tie.Need-has-requires
-has-requires c κs = search needs
+bounded-requires : tie.Need-bounded-requires
+bounded-requires c κs = search needs
+
+single-requires : tie.Need-single-requires
+single-requires c κs = search needs
+
+single-requires-2 : tie.Need-single-requires-2
+single-requires-2 c κs = search needs
+
+join-requires : tie.Need-join-requires
+join-requires c κs = search needs
+
+single-requires-3 : tie.Need-single-requires-3
+single-requires-3 c κs = search needs
+
+join-requires-2 : tie.Need-join-requires-2
+join-requires-2 c κs = search needs
+
+meets-requires : tie.Need-meets-requires
+meets-requires c κs = search needs
+
+-- What the one test says.
+own : (c : tie.After-meets) → let j = c .before .before .before in let b = j .before .before .before in let s = b .before .before .args in
+    c .meets .result ≡ has (num (s .m)) (s .a) || has (num (s .m)) (s .b) || has (num (s .m)) (s .c)
+own c =
+    let j = c .before .before .before in
+    let b = j .before .before .before in
+    c .meets .ensures
+    ∙ ap (λ (z : ℕ). meets z (num (b .before .before .args .m))) (c .before .join2 .ensures ∙ ap₂ union (j .join .ensures ∙ ap₂ union (j .before .before .single .ensures) (j .before .single2 .ensures)) (c .before .before .single3 .ensures))
+    ∙ own-tested _ (b .bounded .ensures) _ _ _
 
 returns : tie.Need-returns
 unfolding realizes
-returns c = rw (← c .before .has .ensures, c .if1 .taken)
+returns c = rw (← own (c .before), c .if1 .taken)
 
-has-requires-2 : tie.Need-has-requires-2
-has-requires-2 c κs = search needs
+any-beyond-requires : tie.Need-any-beyond-requires
+any-beyond-requires c κs =
+    let none = sym (own (c .before)) ∙ c .if1 .left in
+    (c .before .before .before .before .before .before .before .before .before .pre, nor _ _ (nor _ _ none .0) .0)
 
 returns-2 : tie.Need-returns-2
 unfolding realizes
-returns-2 c = rw (← c .before .before .before .has .ensures, c .before .before .if1 .left, ← c .before .has2 .ensures, c .if2 .taken)
-
-has-requires-3 : tie.Need-has-requires-3
-has-requires-3 c κs = search needs
-
-returns-3 : tie.Need-returns-3
-unfolding realizes
-returns-3 c = rw (← c .before .before .before .before .before .has .ensures, c .before .before .before .before .if1 .left, ← c .before .before .before .has2 .ensures, c .before .before .if2 .left, ← c .before .has3 .ensures, c .if3 .taken)
-
-any-beyond-requires : tie.Need-any-beyond-requires
-any-beyond-requires c κs = (c .before .before .before .before .before .before .before .pre, sym (c .before .before .before .before .before .has .ensures) ∙ c .before .before .before .before .if1 .left)
-
-returns-4 : tie.Need-returns-4
-unfolding realizes
-returns-4 c = rw (← c .before .before .before .before .before .before .has .ensures, c .before .before .before .before .before .if1 .left, ← c .before .before .before .before .has2 .ensures, c .before .before .before .if2 .left, ← c .before .before .has3 .ensures, c .before .if3 .left) (c .any-beyond .ensures)
+returns-2 c = rw (← own (c .before .before), c .before .if1 .left) (c .any-beyond .ensures)
 
 pub realized-spec : {M : Type 1} → statement M
 realized-spec =
     tie.close
     (tie.spec
-    has-requires
+    bounded-requires
+    single-requires
+    single-requires-2
+    join-requires
+    single-requires-3
+    join-requires-2
+    meets-requires
     returns
-    has-requires-2
-    returns-2
-    has-requires-3
-    returns-3
     any-beyond-requires
-    returns-4)
+    returns-2)
