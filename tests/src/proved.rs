@@ -1,13 +1,23 @@
 //! The proved library.
 
-const ROOM: usize = 16_384;
+/// Room for every answer.
+pub const ROOM: usize = 16_384;
+
+/// What any other task than those below returns.
+pub const NO_TASK: usize = usize::MAX;
+
+/// The first number that is no task; so are all after it.
+pub const FIRST_UNKNOWN: u8 = 4;
 
 #[derive(Clone, Copy, Debug, PartialEq, Eq)]
 #[repr(u8)]
 pub enum Task {
     Settle = 0,
-    WriteCertificate = 1,
-    CheckCertificate = 2,
+    /// The sheet of a text's verdict, or the line of its refusal.
+    Certify = 1,
+    Check = 2,
+    /// How long what `Certify` gives is.
+    Length = 3,
 }
 
 extern "C" {
@@ -22,7 +32,7 @@ pub fn call(task: Task, input: &[u8]) -> Vec<u8> {
     output
 }
 
-/// The same into given bytes: how many were written.
+/// The same into given bytes: what the function returns.
 pub fn call_into(task: u8, input: &[u8], output: &mut [u8]) -> usize {
     // SAFETY: the library reads `input` and writes `output` within the lengths given with them.
     unsafe { zestanchor(task, input.as_ptr(), input.len(), output.as_mut_ptr(), output.len()) }

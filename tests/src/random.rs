@@ -78,3 +78,14 @@ fn inner(random: &mut Random, style: &Style, connectives: usize, text: &mut Vec<
     write(random, style, connectives, text);
     text.push(b')');
 }
+
+/// One or two bytes changed, mostly by one bit.
+pub fn bytes_changed(random: &mut Random, original: &[u8]) -> Vec<u8> {
+    let mut changed = original.to_vec();
+    for _ in 0..1 + random.below(2) {
+        let at = random.below(changed.len());
+        let flipped = changed[at] ^ 1 << random.below(8);
+        changed[at] = *random.pick(&[flipped, flipped, flipped, 0, 255]);
+    }
+    changed
+}

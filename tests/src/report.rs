@@ -1,5 +1,6 @@
-//! What the program prints of a text.
+//! What the program prints of a text, and what it writes.
 
+use crate::certificate;
 use crate::formula::Formula;
 use crate::naming::{problem_of, Problem};
 use crate::reader::read;
@@ -39,6 +40,14 @@ pub fn report(outcome: &Result<Settled, Refusal>) -> String {
             let worlds: String = worlds.iter().map(world).collect();
             "refuted\n".to_string() + &figures + &worlds
         }
+    }
+}
+
+/// The certificate of a verdict, or the line of a refusal.
+pub fn certified(outcome: &Result<Settled, Refusal>) -> Vec<u8> {
+    match outcome {
+        Ok(settled) => certificate::write(&settled.problem, &settled.answer),
+        Err(_) => report(outcome).into_bytes(),
     }
 }
 

@@ -167,7 +167,10 @@ put-next b b1 b2 at place p q e h first second =
 
 pub put-nothing : (b : List ℕ) (at : ℕ) → b ≡ putAt b at []
 put-nothing b at = elim (decLe at (length b)) [
-  | yes h ↦ sym (put-there b at [] (omega arith) ∙ ap₂ (λ (l : List ℕ) (n : ℕ). l ++ drop n b) {x = take at b ++ []} {y = take at b} {u = at + 0} {v = at} (append-nil (take at b)) (omega arith) ∙ take-append-drop at b)
+  | yes h ↦
+      let here : at + 0 ≡ at = omega arith in
+      let same : take at b ++ [] ++ drop (at + 0) b ≡ take at b ++ drop at b = rw (append-nil (take at b), here) in
+      sym (put-there b at [] (omega arith) ∙ same ∙ take-append-drop at b)
   | no h ↦ put-past b at [] (omega arith)
 ]
 

@@ -21,9 +21,14 @@ pub limit-small : limit ≤ 255
 unfolding limit
 limit-small = omega arith
 
-pub one-in-limit : 1 ≤ limit
+-- What the crates above know of the limit: there is room for 64 atoms, and a set has at most 20 decimal digits.
+pub limit-least : 64 ≤ limit
 unfolding limit
-one-in-limit = omega arith
+limit-least = omega arith
+
+pub set-digits : 2 ^ limit ≤ 10 ^ 20
+unfolding limit
+set-digits = omega arith
 
 pub num-empty : num (record { bits = 0 }) ≡ 0
 unfolding num

@@ -11,6 +11,9 @@ pub mod little_endian;
 // Words to a set, for the sizes of tables.
 pub const WORDS: usize = 1;
 
+// How many atoms there is room for.
+const LIMIT: u8 = 64;
+
 pub struct AtomSet {
     pub bits: u64,
 }
@@ -40,14 +43,14 @@ impl AtomSet {
     pub fn fits(n: u8) -> bool
         ensures { λ r. ⌜ r ≡ leb n limit ⌝ }
     {
-        n <= 64
+        n <= LIMIT
     }
 
     // The set of atom i alone; empty where i is no atom, as for ⊥.
     pub fn single(i: u8) -> Self
         ensures { λ r. ⌜ num r ≡ singleOrEmpty i ⌝ }
     {
-        if i < 64 {
+        if i < LIMIT {
             AtomSet { bits: 1 << i }
         } else {
             AtomSet::EMPTY
@@ -58,7 +61,7 @@ impl AtomSet {
     pub fn below(n: u8) -> Self
         ensures { λ r. ⌜ num r ≡ below n ⌝ }
     {
-        if n < 64 {
+        if n < LIMIT {
             AtomSet { bits: (1 << n) - 1 }
         } else {
             AtomSet {
@@ -132,7 +135,7 @@ impl AtomSet {
     pub fn has(self, i: u8) -> bool
         ensures { λ r. ⌜ r ≡ has (num self) i ⌝ }
     {
-        if i < 64 {
+        if i < LIMIT {
             (self.bits >> i) % 2 == 1
         } else {
             false

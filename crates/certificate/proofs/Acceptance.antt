@@ -7,14 +7,14 @@ use mathlib.Core.Option.{Option, none, some}
 use mathlib.Core.Path.{_≡_, refl, ap, ap₂, _∙_, subst}
 use Prim.Native.Nat.{ℕ, _^_, _≤_, _<_, min}
 use native.Mathlib.Omega.{arith}
-use lib.Dec.{T, leb, ltb, leb→le, ltb→lt}
+use lib.Dec.{T, ltb, ltb→lt}
 use lib.ListN.{length}
-use Rattle.atoms.proofs.Truth.{T-left, T-right, T-true, true-T, by-cond}
+use Rattle.atoms.proofs.Truth.{T-right, T-true, true-T, by-cond}
 use Rattle.atoms.proofs.Bytes.{set-fits}
 use Rattle.atoms.proofs.Machine.{limit-small}
-use Rattle.ipl.specs.Lists.{all, All}
+use Rattle.ipl.specs.Lists.{All}
 use Rattle.ipl.specs.Clause.{closed}
-use Rattle.ipl.specs.Range.{flatTable, implicationTable, stepTable, worldTable, setInRange}
+use Rattle.ipl.specs.Range.{flatTable, implicationTable, setInRange}
 use Rattle.ipl.specs.Search.{Step, stepInRange}
 use Rattle.ipl.specs.Kripke.{Model, IsModel, forcesAtom, ForcesFlat, ForcesImplication, shown}
 use Rattle.ipl.specs.Claim.{Countermodel}
@@ -23,27 +23,16 @@ use Rattle.ipl.proofs.Range.{flat-below, implication-below, atom-or-bot}
 use Rattle.ipl.proofs.Steps.{derivation-forced}
 use Rattle.ipl.proofs.PropositionTwo.{refuting-countermodel}
 use Rattle.certificate.specs.Certificate.{Problem, Claim, valid, refuted, Judgement, accepted, refused}
-use Rattle.certificate.specs.Format.{refutes, rowCount, claimLeast, encode, encodedLength, bound, longest}
+use Rattle.certificate.specs.Format.{refutes, rowsOf, claimLeast, encode, encodedLength, bound, longest}
 use Rattle.certificate.specs.Layout.{laidOut, problemOf, claimOf}
-use Rattle.certificate.specs.Judge.{claimInRange, inRange, allClosed, wrongPlace, judgeClaim, judgeRead, judge}
+use Rattle.certificate.specs.Judge.{inRange, allClosed, wrongPlace, judgeClaim, judgeRead, judge}
 use Rattle.certificate.specs.Accepted.{Bytes, ClaimRight, Right, Addressed, Refusal, layout, range, closing, claim}
-use Rattle.certificate.proofs.InRange.{range-parts}
+use Rattle.certificate.proofs.InRange.{range-parts, steps-ranged, worlds-ranged, range-bound}
 use Rattle.certificate.proofs.Encoding.{FlatFits, ClaimFits, encode-laid, problem-back, claim-back, encode-length}
 use Rattle.certificate.proofs.Decoding.{encode-back, addressed-back}
 use Rattle.certificate.proofs.Claims.{derivation-iff, worlds-iff}
 
 -- ---- the parts of a right certificate
-
--- The steps or the worlds in range, and not too many.
-steps-ranged : (n m : ℕ) (S : List Step) → T (claimInRange n m (valid S)) → All (λ s. T (stepInRange n m s)) S × (length S ≤ stepTable)
-unfolding claimInRange
-steps-ranged n m S t =
-    (all-All (stepInRange n m) S (T-right (leb (length S) stepTable) (all (stepInRange n m) S) t), leb→le (length S) stepTable (T-left (leb (length S) stepTable) (all (stepInRange n m) S) t))
-
-worlds-ranged : (n m : ℕ) (W : List ℕ) → T (claimInRange n m (refuted W)) → All (λ w. T (setInRange n w)) W × (length W ≤ worldTable)
-unfolding claimInRange
-worlds-ranged n m W t =
-    (all-All (setInRange n) W (T-right (leb (length W) worldTable) (all (setInRange n) W) t), leb→le (length W) worldTable (T-left (leb (length W) worldTable) (all (setInRange n) W) t))
 
 set-below : (n s : ℕ) → T (setInRange n s) → s < 2 ^ n
 unfolding setInRange
@@ -58,8 +47,8 @@ unfolding allClosed
 closed-all p = (all-All (closed (p .flats)) (p .implications), All-all (closed (p .flats)) (p .implications))
 
 -- A claim in range, with a world where it has worlds, is right exactly if no place in it is wrong.
-claim-iff : (p : Problem) (c : Claim) → T (inRange p c) → claimLeast (refutes c) ≤ rowCount c → (wrongPlace p c ≡ none) ↔ ClaimRight p c
-unfolding refutes rowCount
+claim-iff : (p : Problem) (c : Claim) → T (inRange p c) → claimLeast (refutes c) ≤ rowsOf c → (wrongPlace p c ≡ none) ↔ ClaimRight p c
+unfolding refutes rowsOf
 claim-iff p (valid S) t h = derivation-iff p S (steps-ranged (p .n) (length (p .implications)) S (range-parts p (valid S) t .claim) .0)
 claim-iff p (refuted W) t h = worlds-iff p W h
 
@@ -74,21 +63,23 @@ Said s (refused number place) = Refusal s number place
 judge-said : (s : List ℕ) → Said s (judge s)
 unfolding Said judge judgeRead judgeClaim
 judge-said s =
-    by-cond (Said s) (laidOut s) (judgeRead (problemOf s) (claimOf s)) (refused 13 0)
-    (λ l. by-cond (Said s) (inRange (problemOf s) (claimOf s)) (cond (allClosed (problemOf s)) (judgeClaim (problemOf s) (claimOf s) (wrongPlace (problemOf s) (claimOf s))) (refused 15 0)) (refused 14 0)
-    (λ r. by-cond (Said s) (allClosed (problemOf s)) (judgeClaim (problemOf s) (claimOf s) (wrongPlace (problemOf s) (claimOf s))) (refused 15 0)
-    (λ k. go (true-T l) (true-T r) (true-T k) (wrongPlace (problemOf s) (claimOf s)) refl)
-    (λ k. closing (true-T l) (true-T r) k))
+    let p = problemOf s in
+    let c = claimOf s in
+    let judged = judgeClaim p c (wrongPlace p c) in
+    by-cond (Said s) (laidOut s) (judgeRead p c) (refused 13 0)
+    (λ l. by-cond (Said s) (inRange p c) (cond (allClosed p) judged (refused 15 0)) (refused 14 0)
+    (λ r. by-cond (Said s) (allClosed p) judged (refused 15 0) (λ k. go (true-T l) (true-T r) (true-T k) (wrongPlace p c) refl) (λ k. closing (true-T l) (true-T r) k))
     (λ r. range (true-T l) r))
     (λ l. layout l)
   where
-    go : T (laidOut s) → T (inRange (problemOf s) (claimOf s)) → T (allClosed (problemOf s)) → (o : Option ℕ) → wrongPlace (problemOf s) (claimOf s) ≡ o → Said s (judgeClaim (problemOf s) (claimOf s) o)
+    go : T (laidOut s) → T (inRange (problemOf s) (claimOf s)) → T (allClosed (problemOf s)) → (o : Option ℕ)
+        → wrongPlace (problemOf s) (claimOf s) ≡ o → Said s (judgeClaim (problemOf s) (claimOf s) o)
     go l r k none e = (l, refl, refl, r, k, e)
     go l r k (some place) e = claim l r k e
 
 -- What right problems and claims have: starts, lengths and sets that fit their bytes.
 right-addressed : (p : Problem) (c : Claim) → Right p c → Addressed p c
-unfolding refutes rowCount
+unfolding refutes rowsOf
 right-addressed p (valid S) r =
     let t = range-parts p (valid S) (r .range) in
     let few = steps-ranged (p .n) (length (p .implications)) S (t .claim) .1 in
@@ -177,16 +168,11 @@ accepted-refuted s bytes p W e =
 -- ---- the length
 
 -- "A length that the sheet never exceeds."
-pub length-bound : (p : Problem) (c : Claim) → Right p c → (length (encode p c) ≡ encodedLength p c) × (length (encode p c) ≤ bound (length (p .flats)) (length (p .implications)))
-unfolding bound encodedLength refutes rowCount
-length-bound p (valid S) r =
-    let few = steps-ranged (p .n) (length (p .implications)) S (range-parts p (valid S) (r .range) .claim) .1 in
-    let e = encode-length p (valid S) in
-    (e, omega (arith, e))
-length-bound p (refuted W) r =
-    let few = worlds-ranged (p .n) (length (p .implications)) W (range-parts p (refuted W) (r .range) .claim) .1 in
-    let e = encode-length p (refuted W) in
-    (e, omega (arith, e))
+pub length-bound : (p : Problem) (c : Claim) → Right p c
+    → (length (encode p c) ≡ encodedLength p c) × (length (encode p c) ≤ bound (length (p .flats)) (length (p .implications)))
+length-bound p c r =
+    let e = encode-length p c in
+    (e, omega (arith, e, range-bound p c (r .range)))
 
 -- The length that the code tells.
 pub length-told : (p : Problem) (c : Claim) → Right p c → length (encode p c) ≤ longest (length (p .flats)) (length (p .implications))

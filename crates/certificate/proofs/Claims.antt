@@ -51,7 +51,7 @@ first-said test (suc k) = go (firstFailing test k) (first-said test k)
     go none h = last h (test k) refl
     go (some i) h = record { below = omega (arith, h .below); fails = h .fails; before = h .before }
 
-pub failing-none : (test : ℕ → Bool) (count : ℕ) → firstFailing test count ≡ none → (j : ℕ) → j < count → test j ≡ true
+failing-none : (test : ℕ → Bool) (count : ℕ) → firstFailing test count ≡ none → (j : ℕ) → j < count → test j ≡ true
 failing-none test count e = subst (FirstSaid test count) e (first-said test count)
 
 -- ---- steps
@@ -66,7 +66,8 @@ module _ (p : Problem) where
   X = length (p .implications)
 
   -- Step `length P` of P and the steps after it.
-  here : (P : List Step) (s : Step) (Q : List Step) → stepProves p (P ++ (s ∷ Q)) (length P) ≡ isNone (ask (p .n) (known (p .flats) (p .implications) P) (s .assumed) (implicationAt (p .implications) (s .number) .b))
+  here : (P : List Step) (s : Step) (Q : List Step) → stepProves p (P ++ (s ∷ Q)) (length P)
+      ≡ isNone (ask (p .n) (known (p .flats) (p .implications) P) (s .assumed) (implicationAt (p .implications) (s .number) .b))
   unfolding stepProves
   here P s Q = rw (take-at P (s ∷ Q) (length P) refl, getD-at P s Q (record { number = 0; assumed = 0 }) (length P) refl) refl
 

@@ -12,11 +12,15 @@ use lib.Seq.{drop-cons, drop-drop, take-add, take-all, length-take-le}
 use Rattle.atoms.specs.Bytes.{value, digits, numberAt}
 use Rattle.atoms.proofs.Truth.{true-T}
 use Rattle.ipl.specs.Lists.{tabulate}
-use Rattle.ipl.proofs.Lists.{All-left, All-right, tabulate-length}
-use Rattle.certificate.specs.Format.{each, flatRow, implicationRow, stepRow, worldRow, claimRows, refutes, rowCount, claimKind, claimWidth, implicationStart, goalStart, claimStart, entryRow, contents, bodies, encode}
-use Rattle.certificate.specs.Layout.{flatFrom, implicationFrom, stepFrom, worldFrom, refuting, flatCount, implicationCount, claimCount, laidOut, problemIn, claimIn, problemOf, claimOf}
+use Rattle.ipl.proofs.Lists.{All-left, All-right}
+use Rattle.certificate.specs.Format.{setBytes, flatBytes, implicationBytes, stepBytes, flatKind, implicationKind, goalKind, claimKind, claimWidth}
+use Rattle.certificate.specs.Format.{entries, entryBytes, entryStart, bodiesStart, flatStart, implicationStart, goalStart, claimStart, totalLength}
+use Rattle.certificate.specs.Format.{each, flatRow, implicationRow, stepRow, worldRow, claimRows, refutes, rowsOf, entryRow, contents, bodies, encode}
+use Rattle.certificate.specs.Layout.{flatFrom, implicationFrom, stepFrom, worldFrom, problemIn, claimIn, problemOf, claimOf}
+use Rattle.certificate.specs.Layout.{refuting, flatCount, implicationCount, claimCount, laidOut}
 use Rattle.certificate.specs.Accepted.{Bytes, Addressed, Encoded}
 use Rattle.certificate.proofs.Entries.{entry-parts, ClaimParts, claim-parts, LaidParts, laid-parts}
+use Rattle.certificate.proofs.Tables.{flats-length, implications-length, claim-refutes, claim-rows}
 use Rattle.certificate.proofs.Encoding.{encode-laid, each-snoc}
 
 -- ---- numbers
@@ -65,27 +69,28 @@ module _ (s : List ℕ) (bytes : Bytes s) where
 
   -- ---- rows
 
-  flat-cut : (at : ℕ) → at + 16 ≤ length s → flatRow (flatFrom s at) ≡ take 16 (drop at s)
+  flat-cut : (at : ℕ) → at + flatBytes ≤ length s → flatRow (flatFrom s at) ≡ take flatBytes (drop at s)
   unfolding flatRow flatFrom
   flat-cut at h =
-      ap₂ (λ (x y : List ℕ). x ++ y) (digits-number at 8 (omega arith)) (digits-number (at + 8) 8 (omega arith) ∙ ap (take 8) (sym (drop-drop 8 at s)))
-      ∙ sym (take-add 8 8 (drop at s))
+      ap₂ (λ (x y : List ℕ). x ++ y) (digits-number at setBytes (omega arith))
+      (digits-number (at + setBytes) setBytes (omega arith) ∙ ap (take setBytes) (sym (drop-drop setBytes at s)))
+      ∙ sym (take-add setBytes setBytes (drop at s))
 
-  implication-cut : (at : ℕ) → at + 3 ≤ length s → implicationRow (implicationFrom s at) ≡ take 3 (drop at s)
+  implication-cut : (at : ℕ) → at + implicationBytes ≤ length s → implicationRow (implicationFrom s at) ≡ take implicationBytes (drop at s)
   unfolding implicationRow implicationFrom
   implication-cut at h =
-      ap (take 3)
+      ap (take implicationBytes)
       (ap (λ l. getD s at 0 ∷ getD s (at + 1) 0 ∷ l) (byte-cut (at + 2) (omega arith) ∙ ap (λ (n : ℕ). drop n s) {x = at + 2} {y = at + 1 + 1} (omega arith))
       ∙ ap (λ l. getD s at 0 ∷ l) (byte-cut (at + 1) (omega arith)) ∙ byte-cut at (omega arith))
 
-  step-cut : (at : ℕ) → at + 9 ≤ length s → stepRow (stepFrom s at) ≡ take 9 (drop at s)
+  step-cut : (at : ℕ) → at + stepBytes ≤ length s → stepRow (stepFrom s at) ≡ take stepBytes (drop at s)
   unfolding stepRow stepFrom
   step-cut at h =
-      ap (λ l. getD s at 0 ∷ l) (digits-number (at + 1) 8 (omega arith)) ∙ ap (take 9) (byte-cut at (omega arith))
+      ap (λ l. getD s at 0 ∷ l) (digits-number (at + 1) setBytes (omega arith)) ∙ ap (take stepBytes) (byte-cut at (omega arith))
 
-  world-cut : (at : ℕ) → at + 8 ≤ length s → worldRow (worldFrom s at) ≡ take 8 (drop at s)
+  world-cut : (at : ℕ) → at + setBytes ≤ length s → worldRow (worldFrom s at) ≡ take setBytes (drop at s)
   unfolding worldRow
-  world-cut at h = digits-number at 8 h
+  world-cut at h = digits-number at setBytes h
 
   -- A body of whole rows.
   rows-cut : {A : Type 0} (row : A → List ℕ) (from : ℕ → A) (width : ℕ) → ((at : ℕ) → at + width ≤ length s → row (from at) ≡ take width (drop at s))
@@ -100,15 +105,15 @@ module _ (s : List ℕ) (bytes : Bytes s) where
 
   -- ---- the table of contents
 
-  entry-cut : (at kind start size : ℕ) → at + 9 ≤ length s → getD s at 0 ≡ kind → numberAt s (at + 1) 4 ≡ start → numberAt s (at + 5) 4 ≡ size
-      → entryRow kind start size ++ drop (at + 9) s ≡ drop at s
+  entry-cut : (at kind start size : ℕ) → at + entryBytes ≤ length s → getD s at 0 ≡ kind → numberAt s (at + 1) 4 ≡ start → numberAt s (at + 5) 4 ≡ size
+      → entryRow kind start size ++ drop (at + entryBytes) s ≡ drop at s
   unfolding entryRow
   entry-cut at kind start size h ek es ez =
       rw (← ek, ← es, ← ez)
       (ap (λ l. getD s at 0 ∷ l)
-      (append-assoc (digits 4 (numberAt s (at + 1) 4)) (digits 4 (numberAt s (at + 5) 4)) (drop (at + 9) s)
+      (append-assoc (digits 4 (numberAt s (at + 1) 4)) (digits 4 (numberAt s (at + 5) 4)) (drop (at + entryBytes) s)
       ∙ ap (λ l. digits 4 (numberAt s (at + 1) 4) ++ l)
-      (ap (λ (n : ℕ). digits 4 (numberAt s (at + 5) 4) ++ drop n s) {x = at + 9} {y = at + 5 + 4} (omega arith) ∙ number-cut (at + 5) 4 (omega arith)
+      (ap (λ (n : ℕ). digits 4 (numberAt s (at + 5) 4) ++ drop n s) {x = at + entryBytes} {y = at + 5 + 4} (omega arith) ∙ number-cut (at + 5) 4 (omega arith)
       ∙ ap (λ (n : ℕ). drop n s) {x = at + 5} {y = at + 1 + 4} (omega arith))
       ∙ number-cut (at + 1) 4 (omega arith))
       ∙ byte-cut at (omega arith))
@@ -120,99 +125,115 @@ module _ (s : List ℕ) (bytes : Bytes s) where
     abbrev X : ℕ
     X = implicationCount s
 
-    parts : LaidParts s
-    parts = laid-parts s laid
+    parts : LaidParts s (length s)
+    parts = laid-parts s (length s) laid
 
-    claim : ClaimParts s F X (refuting s)
-    claim = claim-parts s F X (refuting s) (parts .last)
+    claim : ClaimParts s (length s) F X (refuting s)
+    claim = claim-parts s (length s) F X (refuting s) (parts .last)
 
-    size : length s ≡ claimStart F X + claimWidth (refuting s) * claimCount s
+    size : length s ≡ totalLength F X (refuting s) (claimCount s)
     unfolding claimCount
     size = claim .end
 
-    contents-cut : contents F X (refuting s) (claimCount s) ++ drop 37 s ≡ s
-    unfolding contents flatCount implicationCount claimCount
+    -- The entries one after the other.
+    last-cut : entryRow (claimKind (refuting s)) (claimStart F X) (claimWidth (refuting s) * claimCount s) ++ drop bodiesStart s ≡ drop (entryStart 3) s
+    unfolding claimCount
+    last-cut =
+        let last = entry-parts s (entryStart 3) (claimKind (refuting s)) (claimStart F X) 0 (claimWidth (refuting s)) (claim .entry) in
+        entry-cut (entryStart 3) (claimKind (refuting s)) (claimStart F X) (claimWidth (refuting s) * claimCount s) (omega (arith, size))
+        (last .kind-is) (last .start-is) (last .size-is ∙ zero-add (claimWidth (refuting s) * claimCount s))
+
+    third-cut : entryRow goalKind (goalStart F X) 1 ++ drop (entryStart 3) s ≡ drop (entryStart 2) s
+    third-cut =
+        let third = entry-parts s (entryStart 2) goalKind (goalStart F X) 0 1 (parts .third) in
+        entry-cut (entryStart 2) goalKind (goalStart F X) 1 (omega (arith, size)) (third .kind-is) (third .start-is) (omega (arith, third .size-is, parts .goal-one))
+
+    second-cut : entryRow implicationKind (implicationStart F) (implicationBytes * X) ++ drop (entryStart 2) s ≡ drop (entryStart 1) s
+    unfolding implicationCount
+    second-cut =
+        let second = entry-parts s (entryStart 1) implicationKind (implicationStart F) 0 implicationBytes (parts .second) in
+        entry-cut (entryStart 1) implicationKind (implicationStart F) (implicationBytes * X) (omega (arith, size))
+        (second .kind-is) (second .start-is) (second .size-is ∙ zero-add (implicationBytes * X))
+
+    first-cut : entryRow flatKind bodiesStart (1 + flatBytes * F) ++ drop (entryStart 1) s ≡ drop (entryStart 0) s
+    unfolding flatCount
+    first-cut =
+        let first = entry-parts s (entryStart 0) flatKind bodiesStart 1 flatBytes (parts .first) in
+        entry-cut (entryStart 0) flatKind bodiesStart (1 + flatBytes * F) (omega (arith, size)) (first .kind-is) (first .start-is) (first .size-is)
+
+    contents-cut : contents F X (refuting s) (claimCount s) ++ drop bodiesStart s ≡ s
+    unfolding contents
     contents-cut =
-        let first = entry-parts s 1 1 37 1 16 (parts .first) in
-        let second = entry-parts s 10 2 (implicationStart F) 0 3 (parts .second) in
-        let third = entry-parts s 19 3 (goalStart F X) 0 1 (parts .third) in
-        let last = entry-parts s 28 (claimKind (refuting s)) (claimStart F X) 0 (claimWidth (refuting s)) (claim .entry) in
-        let e4 = entry-cut 28 (claimKind (refuting s)) (claimStart F X) (claimWidth (refuting s) * claimCount s) (omega (arith, size)) (last .kind-is) (last .start-is) (last .size-is ∙ zero-add (claimWidth (refuting s) * claimCount s)) in
-        let e3 = entry-cut 19 3 (goalStart F X) 1 (omega (arith, size)) (third .kind-is) (third .start-is) (omega (arith, third .size-is, parts .goal-one)) in
-        let e2 = entry-cut 10 2 (implicationStart F) (3 * X) (omega (arith, size)) (second .kind-is) (second .start-is) (second .size-is ∙ zero-add (3 * X)) in
-        let e1 = entry-cut 1 1 37 (1 + 16 * F) (omega (arith, size)) (first .kind-is) (first .start-is) (first .size-is) in
+        let e1 = entryRow flatKind bodiesStart (1 + flatBytes * F) in
+        let e2 = entryRow implicationKind (implicationStart F) (implicationBytes * X) in
+        let e3 = entryRow goalKind (goalStart F X) 1 in
         simp append-assoc
-        (ap (λ l. 4 ∷ (entryRow 1 37 (1 + 16 * F) ++ (entryRow 2 (implicationStart F) (3 * X) ++ (entryRow 3 (goalStart F X) 1 ++ l)))) e4
-        ∙ ap (λ l. 4 ∷ (entryRow 1 37 (1 + 16 * F) ++ (entryRow 2 (implicationStart F) (3 * X) ++ l))) e3
-        ∙ ap (λ l. 4 ∷ (entryRow 1 37 (1 + 16 * F) ++ l)) e2
-        ∙ ap (λ l. 4 ∷ l) e1
-        ∙ ap (λ (b : ℕ). b ∷ drop 1 s) (sym (parts .four))
+        (ap (λ l. entries ∷ (e1 ++ (e2 ++ (e3 ++ l)))) last-cut
+        ∙ ap (λ l. entries ∷ (e1 ++ (e2 ++ l))) third-cut
+        ∙ ap (λ l. entries ∷ (e1 ++ l)) second-cut
+        ∙ ap (λ l. entries ∷ l) first-cut
+        ∙ ap (λ (b : ℕ). b ∷ drop (entryStart 0) s) (sym (parts .four))
         ∙ byte-cut 0 (omega (arith, size)))
 
     -- ---- the bodies
 
-    claim-cut : (r : Bool) → length s ≡ claimStart F X + claimWidth r * claimCount s → claimRows (claimIn s (claimStart F X) r (claimCount s)) ≡ drop (claimStart F X) s
+    claim-cut : (r : Bool) → length s ≡ totalLength F X r (claimCount s) → claimRows (claimIn s (claimStart F X) r (claimCount s)) ≡ drop (claimStart F X) s
     unfolding claimRows claimIn
     claim-cut true e =
-        rows-cut worldRow (worldFrom s) 8 world-cut (claimStart F X) (claimCount s) (omega arith)
-        ∙ take-all (8 * claimCount s) (drop (claimStart F X) s) (omega (arith, length-drop (claimStart F X) s))
+        rows-cut worldRow (worldFrom s) setBytes world-cut (claimStart F X) (claimCount s) (omega arith)
+        ∙ take-all (setBytes * claimCount s) (drop (claimStart F X) s) (omega (arith, length-drop (claimStart F X) s))
     claim-cut false e =
-        rows-cut stepRow (stepFrom s) 9 step-cut (claimStart F X) (claimCount s) (omega arith)
-        ∙ take-all (9 * claimCount s) (drop (claimStart F X) s) (omega (arith, length-drop (claimStart F X) s))
+        rows-cut stepRow (stepFrom s) stepBytes step-cut (claimStart F X) (claimCount s) (omega arith)
+        ∙ take-all (stepBytes * claimCount s) (drop (claimStart F X) s) (omega (arith, length-drop (claimStart F X) s))
 
-    bodies-cut : bodies (problemOf s) (claimOf s) ≡ drop 37 s
+    bodies-cut : bodies (problemOf s) (claimOf s) ≡ drop bodiesStart s
     unfolding bodies problemOf problemIn claimOf
     bodies-cut =
+        let n = getD s bodiesStart 0 in
+        let goal = getD s (goalStart F X) 0 in
+        let flats = take (flatBytes * F) (drop flatStart s) in
+        let implications = take (implicationBytes * X) (drop (implicationStart F) s) in
         simp append-assoc
-        (ap₂ (λ (f x : List ℕ). getD s 37 0 ∷ (f ++ (x ++ (getD s (goalStart F X) 0 ∷ claimRows (claimIn s (claimStart F X) (refuting s) (claimCount s))))))
-        (rows-cut flatRow (flatFrom s) 16 flat-cut 38 F (omega (arith, size))) (rows-cut implicationRow (implicationFrom s) 3 implication-cut (implicationStart F) X (omega (arith, size)))
-        ∙ ap (λ l. getD s 37 0 ∷ (take (16 * F) (drop 38 s) ++ (take (3 * X) (drop (implicationStart F) s) ++ (getD s (goalStart F X) 0 ∷ l)))) (claim-cut (refuting s) size)
-        ∙ ap (λ l. getD s 37 0 ∷ (take (16 * F) (drop 38 s) ++ (take (3 * X) (drop (implicationStart F) s) ++ l))) (byte-cut (goalStart F X) (omega (arith, size)))
-        ∙ ap (λ l. getD s 37 0 ∷ (take (16 * F) (drop 38 s) ++ l)) (cut (implicationStart F) (3 * X))
-        ∙ ap (λ l. getD s 37 0 ∷ l) (cut 38 (16 * F))
-        ∙ byte-cut 37 (omega (arith, size)))
-
-    refutes-is : (at : ℕ) (r : Bool) (R : ℕ) → refutes (claimIn s at r R) ≡ r
-    unfolding refutes claimIn
-    refutes-is at true R = refl
-    refutes-is at false R = refl
-
-    count-is : (at : ℕ) (r : Bool) (R : ℕ) → rowCount (claimIn s at r R) ≡ R
-    unfolding rowCount claimIn
-    count-is at true R = tabulate-length (λ k. worldFrom s (at + 8 * k)) R
-    count-is at false R = tabulate-length (λ k. stepFrom s (at + 9 * k)) R
+        (ap₂ (λ (f x : List ℕ). n ∷ (f ++ (x ++ (goal ∷ claimRows (claimIn s (claimStart F X) (refuting s) (claimCount s))))))
+        (rows-cut flatRow (flatFrom s) flatBytes flat-cut flatStart F (omega (arith, size)))
+        (rows-cut implicationRow (implicationFrom s) implicationBytes implication-cut (implicationStart F) X (omega (arith, size)))
+        ∙ ap (λ l. n ∷ (flats ++ (implications ++ (goal ∷ l)))) (claim-cut (refuting s) size)
+        ∙ ap (λ l. n ∷ (flats ++ (implications ++ l))) (byte-cut (goalStart F X) (omega (arith, size)))
+        ∙ ap (λ l. n ∷ (flats ++ l)) (cut (implicationStart F) (implicationBytes * X))
+        ∙ ap (λ l. n ∷ l) (cut flatStart (flatBytes * F))
+        ∙ byte-cut bodiesStart (omega (arith, size)))
 
     flats-are : length (problemOf s .flats) ≡ F
     unfolding problemOf problemIn
-    flats-are = tabulate-length (λ k. flatFrom s (38 + 16 * k)) F
+    flats-are = flats-length s F
 
     implications-are : length (problemOf s .implications) ≡ X
     unfolding problemOf problemIn
-    implications-are = tabulate-length (λ k. implicationFrom s (implicationStart F + 3 * k)) X
+    implications-are = implications-length s (implicationStart F) X
 
-    claim-refutes : refutes (claimOf s) ≡ refuting s
+    refutes-is : refutes (claimOf s) ≡ refuting s
     unfolding claimOf
-    claim-refutes = refutes-is (claimStart F X) (refuting s) (claimCount s)
+    refutes-is = claim-refutes s (claimStart F X) (refuting s) (claimCount s)
 
-    claim-rows : rowCount (claimOf s) ≡ claimCount s
+    rows-are : rowsOf (claimOf s) ≡ claimCount s
     unfolding claimOf
-    claim-rows = count-is (claimStart F X) (refuting s) (claimCount s)
+    rows-are = claim-rows s (claimStart F X) (refuting s) (claimCount s)
 
     -- The bytes are those of what is read from them,
     pub encode-back : s ≡ encode (problemOf s) (claimOf s)
     unfolding encode
     encode-back =
-        sym (rw (flats-are, implications-are, claim-refutes, claim-rows) (ap (λ l. contents F X (refuting s) (claimCount s) ++ l) bodies-cut ∙ contents-cut))
+        sym (rw (flats-are, implications-are, refutes-is, rows-are) (ap (λ l. contents F X (refuting s) (claimCount s) ++ l) bodies-cut ∙ contents-cut))
 
     -- whose starts and lengths fit their bytes.
     pub addressed-back : Addressed (problemOf s) (claimOf s)
     unfolding claimCount
     addressed-back =
-        let last = entry-parts s 28 (claimKind (refuting s)) (claimStart F X) 0 (claimWidth (refuting s)) (claim .entry) in
+        let last = entry-parts s (entryStart 3) (claimKind (refuting s)) (claimStart F X) 0 (claimWidth (refuting s)) (claim .entry) in
         record {
-          starts = rw (flats-are, implications-are) (subst (λ (z : ℕ). z < 2 ^ 32) (last .start-is) (number-small 29 4 (omega (arith, size))));
-          size = rw (claim-refutes, claim-rows) (omega (arith, last .size-is, number-small 33 4 (omega (arith, size))));
-          some = rw (claim-refutes, claim-rows) (claim .some);
+          starts = rw (flats-are, implications-are) (subst (λ (z : ℕ). z < 2 ^ 32) (last .start-is) (number-small (entryStart 3 + 1) 4 (omega (arith, size))));
+          size = rw (refutes-is, rows-are) (omega (arith, last .size-is, number-small (entryStart 3 + 5) 4 (omega (arith, size))));
+          some = rw (refutes-is, rows-are) (claim .some);
         }
 
 -- Layout as a statement: bytes keep it exactly if they are those of some problem and claim.

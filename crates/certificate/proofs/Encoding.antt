@@ -16,28 +16,31 @@ use Rattle.ipl.specs.Clause.{Flat, Implication}
 use Rattle.ipl.specs.Search.{Step}
 use Rattle.ipl.proofs.Lists.{All-at, tabulate-length, tabulate-at}
 use Rattle.certificate.specs.Certificate.{Problem, Claim, valid, refuted}
-use Rattle.certificate.specs.Format.{each, flatRow, implicationRow, stepRow, worldRow, claimRows, refutes, rowCount, claimKind, claimWidth, claimLeast, implicationStart, goalStart, claimStart, entryRow, contents, bodies, encode, encodedLength}
-use Rattle.certificate.specs.Layout.{flatFrom, implicationFrom, stepFrom, worldFrom, rowsIn, entryRight, refuting, flatCount, implicationCount, claimCount, claimLaid, laidOut, problemIn, claimIn, problemOf, claimOf}
+use Rattle.certificate.specs.Format.{setBytes, flatBytes, implicationBytes, stepBytes, flatKind, implicationKind, goalKind, claimKind, claimWidth, claimLeast}
+use Rattle.certificate.specs.Format.{entries, entryStart, bodiesStart, flatStart, implicationStart, goalStart, claimStart, totalLength}
+use Rattle.certificate.specs.Format.{each, flatRow, implicationRow, stepRow, worldRow, claimRows, refutes, rowsOf, entryRow, contents, bodies, encode, encodedLength}
+use Rattle.certificate.specs.Layout.{flatFrom, implicationFrom, stepFrom, worldFrom, flatsIn, implicationsIn, problemIn, claimIn, problemOf, claimOf}
+use Rattle.certificate.specs.Layout.{rowsIn, entryRight, refuting, flatCount, implicationCount, claimCount, claimLaid, laidOut}
 use Rattle.certificate.specs.Accepted.{Addressed}
-use Rattle.certificate.proofs.Entries.{entry-true, claim-true, laid-true, width-positive}
+use Rattle.certificate.proofs.Entries.{firstTest, secondTest, thirdTest, claimEntry, rowsLast, entry-true, claim-true, laid-true, width-positive}
 
 -- ---- lengths
 
-pub length-flat : (f : Flat) → length (flatRow f) ≡ 16
+pub length-flat : (f : Flat) → length (flatRow f) ≡ flatBytes
 unfolding flatRow
-length-flat f = omega (arith, length-append (digits 8 (f .left)) (digits 8 (f .right)), length-digits 8 (f .left), length-digits 8 (f .right))
+length-flat f = omega (arith, length-append (digits setBytes (f .left)) (digits setBytes (f .right)), length-digits setBytes (f .left), length-digits setBytes (f .right))
 
-pub length-implication : (i : Implication) → length (implicationRow i) ≡ 3
+pub length-implication : (i : Implication) → length (implicationRow i) ≡ implicationBytes
 unfolding implicationRow
 length-implication i = refl
 
-pub length-step : (s : Step) → length (stepRow s) ≡ 9
+pub length-step : (s : Step) → length (stepRow s) ≡ stepBytes
 unfolding stepRow
-length-step s = ap suc (length-digits 8 (s .assumed))
+length-step s = ap suc (length-digits setBytes (s .assumed))
 
-pub length-world : (w : ℕ) → length (worldRow w) ≡ 8
+pub length-world : (w : ℕ) → length (worldRow w) ≡ setBytes
 unfolding worldRow
-length-world w = length-digits 8 w
+length-world w = length-digits setBytes w
 
 -- Bodies one after the other.
 pub each-append : {A : Type 0} (row : A → List ℕ) (l m : List A) → each row (l ++ m) ≡ each row l ++ each row m
@@ -92,15 +95,15 @@ byte-at s at b more e = ap (λ (n : ℕ). getD s n 0) {x = at} {y = at + 0} (ome
 
 -- Numbers that fit their bytes.
 pub record FlatFits (f : Flat) : Type 0 where
-  pub left : f .left < 256 ^ 8
-  pub right : f .right < 256 ^ 8
+  pub left : f .left < 256 ^ setBytes
+  pub right : f .right < 256 ^ setBytes
 
 flat-read : (s : List ℕ) (f : Flat) (at : ℕ) (more : List ℕ) → FlatFits f → drop at s ≡ flatRow f ++ more → flatFrom s at ≡ f
 unfolding flatFrom flatRow
 flat-read s f at more h e =
-    let both : drop at s ≡ digits 8 (f .left) ++ (digits 8 (f .right) ++ more) = e ∙ append-assoc (digits 8 (f .left)) (digits 8 (f .right)) more in
-    ap₂ {C = Flat} (λ (l r : ℕ). record { left = l; right = r }) (number-at s at 8 (f .left) (digits 8 (f .right) ++ more) (h .left) both)
-    (number-at s (at + 8) 8 (f .right) more (h .right) (advance s at 8 (digits 8 (f .left)) (digits 8 (f .right) ++ more) both (length-digits 8 (f .left))))
+    let both : drop at s ≡ digits setBytes (f .left) ++ (digits setBytes (f .right) ++ more) = e ∙ append-assoc (digits setBytes (f .left)) (digits setBytes (f .right)) more in
+    ap₂ {C = Flat} (λ (l r : ℕ). record { left = l; right = r }) (number-at s at setBytes (f .left) (digits setBytes (f .right) ++ more) (h .left) both)
+    (number-at s (at + setBytes) setBytes (f .right) more (h .right) (advance s at setBytes (digits setBytes (f .left)) (digits setBytes (f .right) ++ more) both (length-digits setBytes (f .left))))
 
 implication-read : (s : List ℕ) (i : Implication) (at : ℕ) (more : List ℕ) → Unit {0} → drop at s ≡ implicationRow i ++ more → implicationFrom s at ≡ i
 unfolding implicationFrom implicationRow
@@ -110,15 +113,15 @@ implication-read s i at more u e =
     ap (λ (z : ℕ). record { a = z; b = getD s (at + 1) 0; c = getD s (at + 2) 0 }) (byte-at s at (i .a) (i .b ∷ i .c ∷ more) e)
     ∙ ap₂ {C = Implication} (λ (y z : ℕ). record { a = i .a; b = y; c = z }) (byte-at s (at + 1) (i .b) (i .c ∷ more) second) (byte-at s (at + 2) (i .c) more third)
 
-step-read : (s : List ℕ) (x : Step) (at : ℕ) (more : List ℕ) → x .assumed < 256 ^ 8 → drop at s ≡ stepRow x ++ more → stepFrom s at ≡ x
+step-read : (s : List ℕ) (x : Step) (at : ℕ) (more : List ℕ) → x .assumed < 256 ^ setBytes → drop at s ≡ stepRow x ++ more → stepFrom s at ≡ x
 unfolding stepFrom stepRow
 step-read s x at more h e =
-    ap₂ {C = Step} (λ (y z : ℕ). record { number = y; assumed = z }) (byte-at s at (x .number) (digits 8 (x .assumed) ++ more) e)
-    (number-at s (at + 1) 8 (x .assumed) more h (advance s at 1 (x .number ∷ []) (digits 8 (x .assumed) ++ more) e refl))
+    ap₂ {C = Step} (λ (y z : ℕ). record { number = y; assumed = z }) (byte-at s at (x .number) (digits setBytes (x .assumed) ++ more) e)
+    (number-at s (at + 1) setBytes (x .assumed) more h (advance s at 1 (x .number ∷ []) (digits setBytes (x .assumed) ++ more) e refl))
 
-world-read : (s : List ℕ) (w at : ℕ) (more : List ℕ) → w < 256 ^ 8 → drop at s ≡ worldRow w ++ more → worldFrom s at ≡ w
+world-read : (s : List ℕ) (w at : ℕ) (more : List ℕ) → w < 256 ^ setBytes → drop at s ≡ worldRow w ++ more → worldFrom s at ≡ w
 unfolding worldRow
-world-read s w at more h e = number-at s at 8 w more h e
+world-read s w at more h e = number-at s at setBytes w more h e
 
 -- ---- the table of contents
 
@@ -142,69 +145,104 @@ module _ (F X : ℕ) (r : Bool) (R : ℕ) (starts : claimStart F X < 2 ^ 32) (si
   abbrev s : List ℕ
   s = contents F X r R ++ body
 
-  body-is : drop 37 s ≡ body
+  body-is : drop bodiesStart s ≡ body
   unfolding contents entryRow digits
   body-is = refl
 
+  flats-size : numberAt s (entryStart 0 + 5) 4 ≡ 1 + flatBytes * F
+  unfolding contents entryRow digits numberAt
+  flats-size = value-digits 4 (1 + flatBytes * F) (omega arith)
+
   flats-count : flatCount s ≡ F
-  unfolding flatCount contents entryRow digits numberAt
-  flats-count = entry-rows s 1 1 37 1 16 F (omega arith) (value-digits 4 (1 + 16 * F) (omega arith))
+  unfolding flatCount
+  flats-count = entry-rows s (entryStart 0) flatKind bodiesStart 1 flatBytes F (omega arith) flats-size
+
+  first-written : T (firstTest s)
+  unfolding contents entryRow digits numberAt value
+  first-written = entry-written s (entryStart 0) flatKind bodiesStart 1 flatBytes F (omega arith) flats-size refl refl
+
+  implications-size : numberAt s (entryStart 1 + 5) 4 ≡ 0 + implicationBytes * X
+  unfolding contents entryRow digits numberAt
+  implications-size = value-digits 4 (implicationBytes * X) (omega arith) ∙ sym (zero-add (implicationBytes * X))
 
   implications-count : implicationCount s ≡ X
-  unfolding implicationCount contents entryRow digits numberAt
-  implications-count = entry-rows s 10 2 (implicationStart F) 0 3 X (omega arith) (value-digits 4 (3 * X) (omega arith) ∙ sym (zero-add (3 * X)))
+  unfolding implicationCount
+  implications-count = entry-rows s (entryStart 1) implicationKind (implicationStart F) 0 implicationBytes X (omega arith) implications-size
+
+  second-written : T (secondTest s F)
+  unfolding contents entryRow digits numberAt value
+  second-written =
+      entry-written s (entryStart 1) implicationKind (implicationStart F) 0 implicationBytes X (omega arith) implications-size
+      refl (value-digits 4 (implicationStart F) (omega arith))
+
+  third-written : T (thirdTest s F X)
+  unfolding contents entryRow digits numberAt value
+  third-written =
+      entry-written s (entryStart 2) goalKind (goalStart F X) 0 1 1 (omega arith) refl refl (value-digits 4 (goalStart F X) (omega arith))
+
+  goal-one : rowsIn s (entryStart 2) 0 1 ≡ 1
+  unfolding contents entryRow digits numberAt value
+  goal-one = entry-rows s (entryStart 2) goalKind (goalStart F X) 0 1 1 (omega arith) refl
 
   refuting-is : refuting s ≡ r
   unfolding refuting contents entryRow digits
   refuting-is = kind-back r
 
-  last-size : numberAt s 33 4 ≡ claimWidth r * R
+  last-size : numberAt s (entryStart 3 + 5) 4 ≡ 0 + claimWidth r * R
   unfolding contents entryRow digits numberAt
-  last-size = value-digits 4 (claimWidth r * R) (omega arith)
+  last-size = value-digits 4 (claimWidth r * R) (omega arith) ∙ sym (zero-add (claimWidth r * R))
 
-  rows-count : rowsIn s 28 0 (claimWidth r) ≡ R
-  rows-count = entry-rows s 28 (claimKind r) (claimStart F X) 0 (claimWidth r) R (width-positive r) (last-size ∙ sym (zero-add (claimWidth r * R)))
+  rows-count : rowsLast s r ≡ R
+  rows-count = entry-rows s (entryStart 3) (claimKind r) (claimStart F X) 0 (claimWidth r) R (width-positive r) last-size
+
+  last-written : T (claimEntry s F X r)
+  unfolding contents entryRow digits numberAt
+  last-written =
+      entry-written s (entryStart 3) (claimKind r) (claimStart F X) 0 (claimWidth r) R (width-positive r) last-size
+      refl (value-digits 4 (claimStart F X) (omega arith))
 
   claim-count : claimCount s ≡ R
   unfolding claimCount
-  claim-count = ap (λ z. rowsIn s 28 0 (claimWidth z)) refuting-is ∙ rows-count
+  claim-count = ap (rowsLast s) refuting-is ∙ rows-count
+
+  four-written : getD s 0 0 ≡ entries
+  unfolding contents entryRow digits
+  four-written = refl
+
+  length-whole : length body ≡ totalLength F X r R - bodiesStart → length s ≡ totalLength F X r R
+  unfolding contents entryRow digits
+  length-whole len = omega (arith, length-append (take bodiesStart s) (drop bodiesStart s))
 
   -- Bytes with these contents, to the end, keep the layout.
-  pub contents-laid : length body ≡ claimStart F X + claimWidth r * R - 37 → claimLeast r ≤ R → laidOut s ≡ true
-  unfolding contents entryRow digits numberAt value
-  contents-laid len least = laid-true s (record {
-    four = refl;
-    first = entry-written s 1 1 37 1 16 F (omega arith) (value-digits 4 (1 + 16 * F) (omega arith)) refl refl;
-    second = subst (λ (f : ℕ). T (entryRight s 10 2 (implicationStart f) 0 3)) (sym flats-count)
-        (entry-written s 10 2 (implicationStart F) 0 3 X (omega arith) (value-digits 4 (3 * X) (omega arith) ∙ sym (zero-add (3 * X))) refl (value-digits 4 (implicationStart F) (omega arith)));
-    third = subst (λ (f : ℕ). T (entryRight s 19 3 (goalStart f (implicationCount s)) 0 1)) (sym flats-count)
-        (subst (λ (x : ℕ). T (entryRight s 19 3 (goalStart F x) 0 1)) (sym implications-count)
-        (entry-written s 19 3 (goalStart F X) 0 1 1 (omega arith) refl refl (value-digits 4 (goalStart F X) (omega arith))));
-    goal-one = entry-rows s 19 3 (goalStart F X) 0 1 1 (omega arith) refl;
-    last = subst (λ (f : ℕ). T (claimLaid s f (implicationCount s) (refuting s))) (sym flats-count)
-        (subst (λ (x : ℕ). T (claimLaid s F x (refuting s))) (sym implications-count)
-        (subst (λ z. T (claimLaid s F X z)) (sym refuting-is)
-        (true-T (claim-true s F X r (record {
-          entry = entry-written s 28 (claimKind r) (claimStart F X) 0 (claimWidth r) R (width-positive r) (last-size ∙ sym (zero-add (claimWidth r * R))) refl (value-digits 4 (claimStart F X) (omega arith));
+  contents-laid : length body ≡ totalLength F X r R - bodiesStart → claimLeast r ≤ R → laidOut s ≡ true
+  contents-laid len least = laid-true s (length s) (record {
+    four = four-written;
+    first = first-written;
+    second = subst (λ (f : ℕ). T (secondTest s f)) (sym flats-count) second-written;
+    third = subst (λ (f : ℕ). T (thirdTest s f (implicationCount s))) (sym flats-count)
+        (subst (λ (x : ℕ). T (thirdTest s F x)) (sym implications-count) third-written);
+    goal-one = goal-one;
+    last = subst (λ (f : ℕ). T (claimLaid s (length s) f (implicationCount s) (refuting s))) (sym flats-count)
+        (subst (λ (x : ℕ). T (claimLaid s (length s) F x (refuting s))) (sym implications-count)
+        (subst (λ z. T (claimLaid s (length s) F X z)) (sym refuting-is)
+        (true-T (claim-true s (length s) F X r (record {
+          entry = last-written;
           some = omega (arith, rows-count);
-          end = whole ∙ ap (λ (z : ℕ). claimStart F X + claimWidth r * z) (sym rows-count);
+          end = length-whole len ∙ ap (totalLength F X r) (sym rows-count);
         })))));
   })
-    where
-      whole : length s ≡ claimStart F X + claimWidth r * R
-      whole = omega (arith, length-append (take 37 s) (drop 37 s))
 
 -- ---- the whole
 
 -- The sets of a claim fit their bytes.
 abbrev pub ClaimFits : Claim → Type 0
-ClaimFits (valid S) = All (λ z. z .assumed < 256 ^ 8) S
-ClaimFits (refuted W) = All (λ w. w < 256 ^ 8) W
+ClaimFits (valid S) = All (λ z. z .assumed < 256 ^ setBytes) S
+ClaimFits (refuted W) = All (λ w. w < 256 ^ setBytes) W
 
-pub length-claim : (c : Claim) → length (claimRows c) ≡ claimWidth (refutes c) * rowCount c
-unfolding claimRows refutes rowCount
-length-claim (valid S) = length-each stepRow 9 length-step S
-length-claim (refuted W) = length-each worldRow 8 length-world W
+pub length-claim : (c : Claim) → length (claimRows c) ≡ claimWidth (refutes c) * rowsOf c
+unfolding claimRows refutes rowsOf
+length-claim (valid S) = length-each stepRow stepBytes length-step S
+length-claim (refuted W) = length-each worldRow setBytes length-world W
 
 module _ (p : Problem) (c : Claim) where
   abbrev F : ℕ
@@ -213,22 +251,29 @@ module _ (p : Problem) (c : Claim) where
   abbrev X : ℕ
   X = length (p .implications)
 
-  flats-bytes : length (each flatRow (p .flats)) ≡ 16 * F
-  flats-bytes = length-each flatRow 16 length-flat (p .flats)
+  flats-bytes : length (each flatRow (p .flats)) ≡ flatBytes * F
+  flats-bytes = length-each flatRow flatBytes length-flat (p .flats)
 
-  implications-bytes : length (each implicationRow (p .implications)) ≡ 3 * X
-  implications-bytes = length-each implicationRow 3 length-implication (p .implications)
+  implications-bytes : length (each implicationRow (p .implications)) ≡ implicationBytes * X
+  implications-bytes = length-each implicationRow implicationBytes length-implication (p .implications)
 
-  bodies-are : bodies p c ≡ p .n ∷ (each flatRow (p .flats) ++ (each implicationRow (p .implications) ++ (p .goal ∷ claimRows c)))
+  -- What follows the flat clauses, and what follows the byte n.
+  abbrev afterFlats : List ℕ
+  afterFlats = each implicationRow (p .implications) ++ (p .goal ∷ claimRows c)
+
+  abbrev afterCount : List ℕ
+  afterCount = each flatRow (p .flats) ++ afterFlats
+
+  bodies-are : bodies p c ≡ p .n ∷ afterCount
   unfolding bodies
   bodies-are = simp append-assoc
 
-  bodies-length : length (bodies p c) ≡ claimStart F X + claimWidth (refutes c) * rowCount c - 37
+  bodies-length : length (bodies p c) ≡ totalLength F X (refutes c) (rowsOf c) - bodiesStart
   bodies-length =
       ap length bodies-are
       ∙ omega (
         arith,
-        length-append (each flatRow (p .flats)) (each implicationRow (p .implications) ++ (p .goal ∷ claimRows c)),
+        length-append (each flatRow (p .flats)) afterFlats,
         length-append (each implicationRow (p .implications)) (p .goal ∷ claimRows c),
         flats-bytes,
         implications-bytes,
@@ -244,21 +289,21 @@ module _ (p : Problem) (c : Claim) where
     -- What is written keeps the layout.
     pub encode-laid : laidOut (encode p c) ≡ true
     unfolding encode
-    encode-laid = contents-laid F X (refutes c) (rowCount c) (addressed .starts) (addressed .size) (bodies p c) bodies-length (addressed .some)
+    encode-laid = contents-laid F X (refutes c) (rowsOf c) (addressed .starts) (addressed .size) (bodies p c) bodies-length (addressed .some)
 
     -- Where each body starts.
-    from-bodies : drop 37 (encode p c) ≡ p .n ∷ (each flatRow (p .flats) ++ (each implicationRow (p .implications) ++ (p .goal ∷ claimRows c)))
+    from-bodies : drop bodiesStart (encode p c) ≡ p .n ∷ afterCount
     unfolding encode
-    from-bodies = body-is F X (refutes c) (rowCount c) (addressed .starts) (addressed .size) (bodies p c) ∙ bodies-are
+    from-bodies = body-is F X (refutes c) (rowsOf c) (addressed .starts) (addressed .size) (bodies p c) ∙ bodies-are
 
-    from-flats : drop 38 (encode p c) ≡ each flatRow (p .flats) ++ (each implicationRow (p .implications) ++ (p .goal ∷ claimRows c))
-    from-flats = advance (encode p c) 37 1 (p .n ∷ []) (each flatRow (p .flats) ++ (each implicationRow (p .implications) ++ (p .goal ∷ claimRows c))) from-bodies refl
+    from-flats : drop flatStart (encode p c) ≡ afterCount
+    from-flats = advance (encode p c) bodiesStart 1 (p .n ∷ []) afterCount from-bodies refl
 
-    from-implications : drop (implicationStart F) (encode p c) ≡ each implicationRow (p .implications) ++ (p .goal ∷ claimRows c)
-    from-implications = advance (encode p c) 38 (16 * F) (each flatRow (p .flats)) (each implicationRow (p .implications) ++ (p .goal ∷ claimRows c)) from-flats flats-bytes
+    from-implications : drop (implicationStart F) (encode p c) ≡ afterFlats
+    from-implications = advance (encode p c) flatStart (flatBytes * F) (each flatRow (p .flats)) afterFlats from-flats flats-bytes
 
     from-goal : drop (goalStart F X) (encode p c) ≡ p .goal ∷ claimRows c
-    from-goal = advance (encode p c) (implicationStart F) (3 * X) (each implicationRow (p .implications)) (p .goal ∷ claimRows c) from-implications implications-bytes
+    from-goal = advance (encode p c) (implicationStart F) (implicationBytes * X) (each implicationRow (p .implications)) (p .goal ∷ claimRows c) from-implications implications-bytes
 
     from-claim : drop (claimStart F X) (encode p c) ≡ claimRows c
     from-claim = advance (encode p c) (goalStart F X) 1 (p .goal ∷ []) (claimRows c) from-goal refl
@@ -267,33 +312,33 @@ module _ (p : Problem) (c : Claim) where
     pub problem-back : All FlatFits (p .flats) → problemOf (encode p c) ≡ p
     unfolding problemOf problemIn encode
     problem-back fits =
-        ap₂ (problemIn (encode p c)) (flats-count F X (refutes c) (rowCount c) (addressed .starts) (addressed .size) (bodies p c))
-        (implications-count F X (refutes c) (rowCount c) (addressed .starts) (addressed .size) (bodies p c))
+        ap₂ (problemIn (encode p c)) (flats-count F X (refutes c) (rowsOf c) (addressed .starts) (addressed .size) (bodies p c))
+        (implications-count F X (refutes c) (rowsOf c) (addressed .starts) (addressed .size) (bodies p c))
         ∙ whole (encode p c)
-        (rows-read flatRow 16 length-flat FlatFits (encode p c) (flatFrom (encode p c)) (λ f at more. flat-read (encode p c) f at more) 38 (p .flats)
-        (each implicationRow (p .implications) ++ (p .goal ∷ claimRows c)) (record { left = 0; right = 0 }) fits from-flats)
-        (rows-read implicationRow 3 length-implication (λ i. Unit {0}) (encode p c) (implicationFrom (encode p c)) (λ i at more. implication-read (encode p c) i at more)
+        (rows-read flatRow flatBytes length-flat FlatFits (encode p c) (flatFrom (encode p c)) (λ f at more. flat-read (encode p c) f at more) flatStart (p .flats)
+        afterFlats (record { left = 0; right = 0 }) fits from-flats)
+        (rows-read implicationRow implicationBytes length-implication (λ i. Unit {0}) (encode p c) (implicationFrom (encode p c)) (λ i at more. implication-read (encode p c) i at more)
         (implicationStart F) (p .implications) (p .goal ∷ claimRows c) (record { a = 0; b = 0; c = 0 }) (units (p .implications)) from-implications)
-        (byte-at (encode p c) 37 (p .n) (each flatRow (p .flats) ++ (each implicationRow (p .implications) ++ (p .goal ∷ claimRows c))) from-bodies)
+        (byte-at (encode p c) bodiesStart (p .n) afterCount from-bodies)
         (byte-at (encode p c) (goalStart F X) (p .goal) (claimRows c) from-goal)
       where
         units : (l : List Implication) → All (λ i. Unit {0}) l
         units [] = tt
         units (i ∷ l) = (tt, units l)
 
-        whole : (s : List ℕ) → tabulate (λ k. flatFrom s (38 + 16 * k)) F ≡ p .flats → tabulate (λ k. implicationFrom s (implicationStart F + 3 * k)) X ≡ p .implications
-            → getD s 37 0 ≡ p .n → getD s (goalStart F X) 0 ≡ p .goal → problemIn s F X ≡ p
+        whole : (s : List ℕ) → flatsIn s F ≡ p .flats → implicationsIn s (implicationStart F) X ≡ p .implications
+            → getD s bodiesStart 0 ≡ p .n → getD s (goalStart F X) 0 ≡ p .goal → problemIn s F X ≡ p
         whole s ef ei en eg =
-            ap₂ {C = Problem} (λ (n g : ℕ). record { n = n; flats = tabulate (λ k. flatFrom s (38 + 16 * k)) F; implications = tabulate (λ k. implicationFrom s (implicationStart F + 3 * k)) X; goal = g }) en eg
+            ap₂ {C = Problem} (λ (n g : ℕ). record { n = n; flats = flatsIn s F; implications = implicationsIn s (implicationStart F) X; goal = g }) en eg
             ∙ ap₂ {C = Problem} (λ (f : List Flat) (i : List Implication). record { n = p .n; flats = f; implications = i; goal = p .goal }) ef ei
 
-    claim-read : (d : Claim) → claimRows c ≡ claimRows d → ClaimFits d → claimIn (encode p c) (claimStart F X) (refutes d) (rowCount d) ≡ d
-    unfolding claimIn claimRows refutes rowCount
+    claim-read : (d : Claim) → claimRows c ≡ claimRows d → ClaimFits d → claimIn (encode p c) (claimStart F X) (refutes d) (rowsOf d) ≡ d
+    unfolding claimIn claimRows refutes rowsOf
     claim-read (valid S) e fits =
-        ap valid (rows-read stepRow 9 length-step (λ z. z .assumed < 256 ^ 8) (encode p c) (stepFrom (encode p c)) (λ z at more. step-read (encode p c) z at more) (claimStart F X) S []
+        ap valid (rows-read stepRow stepBytes length-step (λ z. z .assumed < 256 ^ setBytes) (encode p c) (stepFrom (encode p c)) (λ z at more. step-read (encode p c) z at more) (claimStart F X) S []
         (record { number = 0; assumed = 0 }) fits (from-claim ∙ e ∙ sym (append-nil (each stepRow S))))
     claim-read (refuted W) e fits =
-        ap refuted (rows-read worldRow 8 length-world (λ w. w < 256 ^ 8) (encode p c) (worldFrom (encode p c)) (λ w at more. world-read (encode p c) w at more) (claimStart F X) W []
+        ap refuted (rows-read worldRow setBytes length-world (λ w. w < 256 ^ setBytes) (encode p c) (worldFrom (encode p c)) (λ w at more. world-read (encode p c) w at more) (claimStart F X) W []
         0 fits (from-claim ∙ e ∙ sym (append-nil (each worldRow W))))
 
     -- and as the claim.
@@ -301,7 +346,7 @@ module _ (p : Problem) (c : Claim) where
     unfolding claimOf encode
     claim-back fits =
         ap₂ (λ (f x : ℕ). claimIn (encode p c) (claimStart f x) (refuting (encode p c)) (claimCount (encode p c)))
-        (flats-count F X (refutes c) (rowCount c) (addressed .starts) (addressed .size) (bodies p c)) (implications-count F X (refutes c) (rowCount c) (addressed .starts) (addressed .size) (bodies p c))
-        ∙ ap₂ (claimIn (encode p c) (claimStart F X)) (refuting-is F X (refutes c) (rowCount c) (addressed .starts) (addressed .size) (bodies p c))
-        (claim-count F X (refutes c) (rowCount c) (addressed .starts) (addressed .size) (bodies p c))
+        (flats-count F X (refutes c) (rowsOf c) (addressed .starts) (addressed .size) (bodies p c)) (implications-count F X (refutes c) (rowsOf c) (addressed .starts) (addressed .size) (bodies p c))
+        ∙ ap₂ (claimIn (encode p c) (claimStart F X)) (refuting-is F X (refutes c) (rowsOf c) (addressed .starts) (addressed .size) (bodies p c))
+        (claim-count F X (refutes c) (rowsOf c) (addressed .starts) (addressed .size) (bodies p c))
         ∙ claim-read c refl fits

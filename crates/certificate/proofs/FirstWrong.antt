@@ -18,7 +18,7 @@ module _ (test : ℕ → Bool) where
   first-none zero h = refl
   first-none (suc k) h = rw (first-none k (λ j l. h j (omega arith)), h k (omega arith)) refl
 
-  pub first-at : (count i : ℕ) → i < count → ((j : ℕ) → j < i → test j ≡ true) → test i ≡ false → firstFailing test count ≡ some i
+  first-at : (count i : ℕ) → i < count → ((j : ℕ) → j < i → test j ≡ true) → test i ≡ false → firstFailing test count ≡ some i
   unfolding firstFailing orElse
   first-at zero i l h e = absurd (not-suc-le-zero l)
   first-at (suc k) i l h e = elim (decLe (suc i) k) [

@@ -1,18 +1,22 @@
 -- What a problem and a claim in range have, part by part.
 use mathlib.Core.Bool.{Bool, true, _&&_}
+use mathlib.Core.List.{List}
 use mathlib.Core.Path.{_≡_}
-use Prim.Native.Nat.{ℕ, _≤_}
+use Prim.Native.Nat.{ℕ, _*_, _≤_}
+use native.Mathlib.Omega.{arith}
 use lib.Dec.{T, leb, leb→le, le→leb}
 use lib.ListN.{length}
 use Rattle.atoms.specs.Sets.{limit}
 use Rattle.atoms.proofs.Truth.{T-left, T-right, T-and, T-true}
 use Rattle.ipl.specs.Lists.{all, All}
 use Rattle.ipl.specs.Clause.{Implication}
-use Rattle.ipl.specs.Range.{flatTable, implicationTable, atomOrBot, flatInRange, implicationInRange}
+use Rattle.ipl.specs.Range.{flatTable, implicationTable, stepTable, worldTable, atomOrBot, setInRange, flatInRange, implicationInRange}
+use Rattle.ipl.specs.Search.{Step, stepInRange}
 use Rattle.ipl.specs.Book.{countInRange}
 use Rattle.ipl.proofs.Lists.{all-All, All-all, All-map}
 use Rattle.ipl.proofs.Range.{implication-below, implication-in-range}
-use Rattle.certificate.specs.Certificate.{Problem, Claim}
+use Rattle.certificate.specs.Certificate.{Problem, Claim, valid, refuted}
+use Rattle.certificate.specs.Format.{stepBytes, refutes, rowsOf, claimWidth, encodedLength, bound, longestAccepted}
 use Rattle.certificate.specs.Judge.{claimInRange, countsInRange, inRange}
 
 pub record RangeParts (p : Problem) (c : Claim) : Type 0 where
@@ -87,3 +91,38 @@ implications-below-limit p c t =
     let r = range-parts p c t in
     T-true (all (implicationInRange limit) (p .implications))
     (All-all (implicationInRange limit) (p .implications) (All-map (p .implications) (wider-implication (p .n) limit (r .few)) (r .implications)))
+
+-- ---- the claim in range
+
+-- The steps or the worlds in range, and not too many.
+pub steps-ranged : (n m : ℕ) (S : List Step) → T (claimInRange n m (valid S)) → All (λ s. T (stepInRange n m s)) S × (length S ≤ stepTable)
+unfolding claimInRange
+steps-ranged n m S t =
+    let few = leb (length S) stepTable in
+    let ranged = all (stepInRange n m) S in
+    (all-All (stepInRange n m) S (T-right few ranged t), leb→le (length S) stepTable (T-left few ranged t))
+
+pub worlds-ranged : (n m : ℕ) (W : List ℕ) → T (claimInRange n m (refuted W)) → All (λ w. T (setInRange n w)) W × (length W ≤ worldTable)
+unfolding claimInRange
+worlds-ranged n m W t =
+    let few = leb (length W) worldTable in
+    let ranged = all (setInRange n) W in
+    (all-All (setInRange n) W (T-right few ranged t), leb→le (length W) worldTable (T-left few ranged t))
+
+-- Its bytes are no more than those of a full table of steps.
+claim-small : (n m : ℕ) (c : Claim) → T (claimInRange n m c) → claimWidth (refutes c) * rowsOf c ≤ stepBytes * stepTable
+unfolding refutes rowsOf
+claim-small n m (valid S) t = omega (arith, steps-ranged n m S t .1)
+claim-small n m (refuted W) t = omega (arith, worlds-ranged n m W t .1)
+
+-- "A length that the sheet never exceeds", of whatever is in range.
+pub range-bound : (p : Problem) (c : Claim) → T (inRange p c) → encodedLength p c ≤ bound (length (p .flats)) (length (p .implications))
+unfolding encodedLength bound
+range-bound p c t = omega (arith, claim-small (p .n) (length (p .implications)) c (range-parts p c t .claim))
+
+-- "At most 13,223."
+pub range-longest : (p : Problem) (c : Claim) → T (inRange p c) → encodedLength p c ≤ longestAccepted
+unfolding bound
+range-longest p c t =
+    let r = range-parts p c t in
+    omega (arith, range-bound p c t, r .flat-count, r .implication-count)

@@ -15,3 +15,4 @@ pub mod Acceptance
 pub mod Reached
 pub mod RowsBack
 pub mod OneEntry
+pub mod Beginning

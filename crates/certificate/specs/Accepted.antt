@@ -10,7 +10,7 @@ use Rattle.ipl.specs.Lists.{All}
 use Rattle.ipl.specs.Clause.{closed}
 use Rattle.ipl.specs.Claim.{Derivation, WorldsRight}
 use Rattle.certificate.specs.Certificate.{Problem, Claim, valid, refuted}
-use Rattle.certificate.specs.Format.{encode, refutes, rowCount, claimStart, claimWidth, claimLeast}
+use Rattle.certificate.specs.Format.{encode, refutes, rowsOf, claimStart, claimWidth, claimLeast}
 use Rattle.certificate.specs.Layout.{laidOut, problemOf, claimOf}
 use Rattle.certificate.specs.Judge.{inRange, allClosed, wrongPlace}
 
@@ -32,8 +32,8 @@ pub record Right (p : Problem) (c : Claim) : Type 0 where
 -- Starts and lengths fit 32 bits, and there is "at least one" world.
 pub record Addressed (p : Problem) (c : Claim) : Type 0 where
   pub starts : claimStart (length (p .flats)) (length (p .implications)) < 2 ^ 32
-  pub size : claimWidth (refutes c) * rowCount c < 2 ^ 32
-  pub some : claimLeast (refutes c) ≤ rowCount c
+  pub size : claimWidth (refutes c) * rowsOf c < 2 ^ 32
+  pub some : claimLeast (refutes c) ≤ rowsOf c
 
 -- Bytes that keep the layout: those of a problem and a claim.
 pub record Encoded (s : List ℕ) : Type 0 where

@@ -1,24 +1,24 @@
 -- What the code's values say of the bytes.
 use mathlib.Core.Bool.{Bool, true, false}
-use mathlib.Core.List.{List}
+use mathlib.Core.List.{List, _++_}
 use mathlib.Core.Logic.{_⊎_}
 use mathlib.Core.Option.{Option, none, some}
 use mathlib.Core.Path.{_≡_}
-use Prim.Native.Nat.{ℕ, _+_, _*_, _^_, _≤_, _<_}
+use Prim.Native.Nat.{ℕ, _+_, _*_, _≤_, _<_}
 use lib.Dec.{T}
 use lib.ListN.{length, take}
 use Rattle.atoms.specs.Sets.{limit}
 use Rattle.atoms.specs.Words.{rowOf, rowCount}
 use Rattle.atoms.specs.Bytes.{numberAt}
-use Rattle.ipl.specs.Lists.{all, tabulate}
 use Rattle.ipl.specs.Range.{implicationInRange}
-use Rattle.ipl.specs.Clause.{Flat, Implication}
+use Rattle.ipl.specs.Clause.{Implication}
 use Rattle.ipl.specs.Search.{Step, known}
 use Rattle.sat.specs.Table.{clauses}
 use Rattle.certificate.specs.Certificate.{Problem, Claim, Judgement, accepted, refused}
-use Rattle.certificate.specs.Format.{claimStart, claimWidth}
-use Rattle.certificate.specs.Layout.{flatFrom, implicationFrom, stepFrom, worldFrom, rowsIn, entryRight, refuting, flatCount, implicationCount, claimCount, claimLaid, laidOut, problemIn, claimIn}
-use Rattle.certificate.specs.Judge.{inRange, stepProves}
+use Rattle.certificate.specs.Format.{setBytes, flatBytes, entryBytes, bodiesStart, implicationStart, claimStart, totalLength, longestAccepted}
+use Rattle.certificate.specs.Layout.{flatsIn, stepsIn, worldsIn, rowsIn, entryRight}
+use Rattle.certificate.specs.Layout.{refuting, flatCount, implicationCount, claimCount, claimLaid, laidIn, laidOut, problemIn, claimIn}
+use Rattle.certificate.specs.Judge.{inRange, stepProves, judge}
 use Rattle.certificate.specs.declared.Contents.{Contents}
 use Rattle.certificate.specs.declared.Checked.{Checked}
 use Rattle.certificate.specs.declared.Checked.the-variants.{Accepted, Refused}
@@ -42,74 +42,65 @@ abbrev pub judgementOf : List ℕ → Checked → Judgement
 judgementOf s (Accepted k) = accepted (problemBy s k) (claimBy s k)
 judgementOf s (Refused number place) = refused number place
 
+-- Of the beginning of a certificate with `more` bytes after it: the judgement of all, whatever these are, where the beginning has
+-- room for every certificate in range. The answer to a shorter beginning is of no use, and is the program's choice.
+abbrev pub BeginningChecked : List ℕ → ℕ → Checked → Type 0
+BeginningChecked s more r = (rest : List ℕ) → length rest ≡ more → (more ≡ 0) ⊎ (longestAccepted ≤ length s) → judgementOf (s ++ rest) r ≡ judge (s ++ rest)
+
 -- The place of what is wrong.
 abbrev pub placeOf : Wrong → Option ℕ
 placeOf Nothing = none
 placeOf (At place) = some place
 
--- An entry as it was asked for, with its rows.
-pub record EntryFound (s : List ℕ) (at kind start extra width count : ℕ) : Type 0 where
+-- An entry as it was asked for, with its rows and the position after it.
+pub record EntryFound (s : List ℕ) (at kind start extra width count next : ℕ) : Type 0 where
   pub right : entryRight s at kind start extra width ≡ true
   pub count-is : count ≡ rowsIn s at extra width
-  pub small : width * count < 2 ^ 32
+  pub next-is : next ≡ at + entryBytes
 
+-- Nothing is said of an entry that is not there whole.
 abbrev pub EntryRead : List ℕ → ℕ → ℕ → ℕ → ℕ → ℕ → Entry → Type 0
-EntryRead s at kind start extra width (Rows count) = EntryFound s at kind start extra width count
-EntryRead s at kind start extra width Missing = entryRight s at kind start extra width ≡ false
+EntryRead s at kind start extra width (Rows count next) = EntryFound s at kind start extra width count next
+EntryRead s at kind start extra width Missing = at + entryBytes ≤ length s → entryRight s at kind start extra width ≡ false
 
--- The contents where the last entry is as it must be after F flat clauses and X implications.
-pub record ClaimFound (s : List ℕ) (F X : ℕ) (r : Bool) (k : Contents) : Type 0 where
-  pub laid : claimLaid s F X r ≡ true
-  pub contents-are : k ≡ record { flats = F; implications = X; refuting = r; rows = rowsIn s 28 0 (claimWidth r) }
-  pub size : length s ≡ claimStart F X + claimWidth r * rowsIn s 28 0 (claimWidth r)
+-- The contents where the last entry is as it must be after F flat clauses and X implications, in L bytes.
+pub record ClaimFound (s : List ℕ) (L F X : ℕ) (k : Contents) : Type 0 where
+  pub laid : claimLaid s L F X (refuting s) ≡ true
+  pub contents-are : k ≡ record { flats = F; implications = X; refuting = refuting s; rows = claimCount s }
 
-abbrev pub ClaimRead : List ℕ → ℕ → ℕ → Bool → Layout → Type 0
-ClaimRead s F X r (Read k) = ClaimFound s F X r k
-ClaimRead s F X r (layout.Refused number) = (number ≡ 13) × (claimLaid s F X r ≡ false)
+abbrev pub ClaimRead : List ℕ → ℕ → ℕ → ℕ → Layout → Type 0
+ClaimRead s L F X (Read k) = ClaimFound s L F X k
+ClaimRead s L F X (layout.Refused number) = (number ≡ 13) × (bodiesStart ≤ length s → claimLaid s L F X (refuting s) ≡ false)
 
--- The contents of bytes that keep the layout.
-pub record ContentsRead (s : List ℕ) (k : Contents) : Type 0 where
-  pub laid : laidOut s ≡ true
+-- The contents that the beginning of L bytes has where they keep the layout.
+pub record ContentsRead (s : List ℕ) (L : ℕ) (k : Contents) : Type 0 where
+  pub laid : laidIn s L ≡ true
   pub contents-are : k ≡ record { flats = flatCount s; implications = implicationCount s; refuting = refuting s; rows = claimCount s }
-  pub size : length s ≡ claimStart (k .flats) (k .implications) + claimWidth (k .refuting) * k .rows
+  pub size : L ≡ totalLength (k .flats) (k .implications) (k .refuting) (k .rows)
 
+-- Nothing is said of bytes that are fewer than the contents.
+abbrev pub BeginningRead : List ℕ → ℕ → Layout → Type 0
+BeginningRead s L (Read k) = ContentsRead s L k
+BeginningRead s L (layout.Refused number) = (number ≡ 13) × (bodiesStart ≤ length s → laidIn s L ≡ false)
+
+-- The same of all bytes.
 abbrev pub LayoutRead : List ℕ → Layout → Type 0
-LayoutRead s (Read k) = ContentsRead s k
+LayoutRead s (Read k) = ContentsRead s (length s) k
 LayoutRead s (layout.Refused number) = (number ≡ 13) × (laidOut s ≡ false)
 
 -- The bodies are all there.
 abbrev pub Sized : List ℕ → Contents → Type 0
-Sized s k = length s ≡ claimStart (k .flats) (k .implications) + claimWidth (k .refuting) * k .rows
+Sized s k = length s ≡ totalLength (k .flats) (k .implications) (k .refuting) (k .rows)
 
 -- Bodies that are all there, with every number in range.
 pub record Ranged (s : List ℕ) (k : Contents) : Type 0 where
   pub sized : Sized s k
   pub ranged : T (inRange (problemBy s k) (claimBy s k))
 
--- The rows of each kind, from a start on.
-abbrev pub flatsIn : List ℕ → ℕ → List Flat
-flatsIn s count = tabulate (λ k. flatFrom s (38 + 16 * k)) count
-
-abbrev pub implicationsIn : List ℕ → ℕ → ℕ → List Implication
-implicationsIn s start count = tabulate (λ k. implicationFrom s (start + 3 * k)) count
-
-abbrev pub stepsIn : List ℕ → ℕ → ℕ → List Step
-stepsIn s start count = tabulate (λ k. stepFrom s (start + 9 * k)) count
-
-abbrev pub worldsIn : List ℕ → ℕ → ℕ → List ℕ
-worldsIn s start count = tabulate (λ k. worldFrom s (start + 8 * k)) count
-
--- The implication at a place of the bytes, in range over the atoms, and the flat clauses before it.
-pub record Within (s : List ℕ) (count at : ℕ) : Type 0 where
-  pub flats-there : 38 + 16 * count ≤ length s
-  pub there : at + 3 ≤ length s
-  pub ranged : T (implicationInRange limit (implicationFrom s at))
-
--- The same of each implication from a start on.
-pub record EachWithin (s : List ℕ) (flats start count : ℕ) : Type 0 where
-  pub flats-there : 38 + 16 * flats ≤ length s
-  pub there : start + 3 * count ≤ length s
-  pub ranged : all (implicationInRange limit) (implicationsIn s start count) ≡ true
+-- An implication in range over the atoms, and the flat clauses that are searched for its closing clause.
+pub record Closable (s : List ℕ) (count : ℕ) (i : Implication) : Type 0 where
+  pub flats-there : implicationStart count ≤ length s
+  pub ranged : T (implicationInRange limit i)
 
 -- The steps and the worlds that a table of contents finds.
 abbrev pub stepsBy : List ℕ → Contents → List Step
@@ -121,7 +112,7 @@ worldsBy s k = worldsIn s (claimStart (k .flats) (k .implications)) (k .rows)
 -- A table after one side of the flat clauses, the first at a start, was put into its first rows.
 pub record ColumnLoaded (s : List ℕ) (start count : ℕ) (before after : List ℕ) : Type 0 where
   pub size : length after ≡ length before
-  pub rows-are : (k : ℕ) → k < count → rowOf after k ≡ numberAt s (start + 16 * k) 8
+  pub rows-are : (k : ℕ) → k < count → rowOf after k ≡ numberAt s (start + flatBytes * k) setBytes
 
 -- Before the steps: the tables hold the flat clauses and have room for the clauses of the steps.
 pub record StepsReady (s : List ℕ) (k : Contents) (left right : List ℕ) : Type 0 where
@@ -161,4 +152,4 @@ pub record Unkept (s : List ℕ) (k : Contents) : Type 0 where
   pub no-rows : k .rows ≡ 0
 
 abbrev pub Kept : List ℕ → Contents → Type 0
-Kept s k = ContentsRead s k ⊎ Unkept s k
+Kept s k = ContentsRead s (length s) k ⊎ Unkept s k

@@ -1,24 +1,30 @@
 // Every implication has its closing clause among the flat clauses (refusal 15).
 use super::Contents;
-use super::bytes_at::byte;
+use super::FlatRow;
+use super::ImplicationRow;
+use super::places::FLAT_BYTES;
+use super::places::FLATS_AT;
+use super::places::IMPLICATION_BYTES;
+use super::rows;
 use atoms::AtomSet;
 ghost use mathlib.Core.Path.{_≡_};
-ghost use Prim.Native.Nat.{_+_, _*_, _≤_};
+ghost use Prim.Native.Nat.{_≤_};
 ghost use lib.ListN.{length};
 ghost use Rattle.atoms.specs.Words.{num};
-ghost use Rattle.ipl.specs.Lists.{all, any};
+ghost use Rattle.ipl.specs.Lists.{any};
 ghost use Rattle.ipl.specs.Clause.{sameFlat, closed};
-ghost use Rattle.certificate.specs.Layout.{flatFrom, implicationFrom};
+ghost use Rattle.certificate.specs.Format.{implicationStart};
+ghost use Rattle.certificate.specs.Layout.{flatsIn};
 ghost use Rattle.certificate.specs.Judge.{allClosed};
-ghost use Rattle.certificate.specs.Checked.{Ranged, problemBy, flatsIn, implicationsIn, Within, EachWithin};
+ghost use Rattle.certificate.specs.ReadBack.{flatOf, implicationOf};
+ghost use Rattle.certificate.specs.Checked.{Ranged, problemBy, Closable};
 
-// Whether the flat clause at `at` has these sides.
-fn is_flat(bytes: &[u8], at: usize, left: AtomSet, right: AtomSet) -> bool
-    requires { ⌜ at + 16 ≤ length (now bytes) ⌝ }
-    ensures { λ r. ⌜ r ≡ sameFlat (record { left = num left; right = num right }) (flatFrom (now (bytes .entry)) at) ⌝ }
+// Whether a flat clause has these sides.
+fn is_flat(f: FlatRow, left: AtomSet, right: AtomSet) -> bool
+    ensures { λ r. ⌜ r ≡ sameFlat (record { left = num left; right = num right }) (flatOf f) ⌝ }
 {
-    if left.same(atoms::load(bytes, at)) {
-        right.same(atoms::load(bytes, at + 8))
+    if left.same(f.left) {
+        right.same(f.right)
     } else {
         false
     }
@@ -26,12 +32,16 @@ fn is_flat(bytes: &[u8], at: usize, left: AtomSet, right: AtomSet) -> bool
 
 // Whether the flat clauses have one with these sides.
 fn has_flat(bytes: &[u8], count: usize, left: AtomSet, right: AtomSet) -> bool
-    requires { ⌜ 38 + 16 * count ≤ length (now bytes) ⌝ }
+    requires { ⌜ implicationStart count ≤ length (now bytes) ⌝ }
     ensures { λ r. ⌜ r ≡ any (sameFlat (record { left = num left; right = num right })) (flatsIn (now (bytes .entry)) count) ⌝ }
 {
     let mut i = 0;
     while i < count {
-        if is_flat(bytes, 38 + 16 * i, left, right) {
+        if is_flat(
+            rows::flat_from(bytes, FLATS_AT + FLAT_BYTES * i),
+            left,
+            right,
+        ) {
             return true;
         }
         i += 1;
@@ -39,36 +49,15 @@ fn has_flat(bytes: &[u8], count: usize, left: AtomSet, right: AtomSet) -> bool
     false
 }
 
-// The implication at `at` has its closing clause. `all_closed` meets the range.
-fn is_closed(bytes: &[u8], count: usize, at: usize) -> bool
-    requires { ⌜ Within (now bytes) count at ⌝ }
-    ensures { λ r. ⌜ r ≡ closed (flatsIn (now (bytes .entry)) count) (implicationFrom (now (bytes .entry)) at) ⌝ }
+// Whether an implication has its closing clause. `all_closed` meets the range.
+fn is_closed(bytes: &[u8], count: usize, x: ImplicationRow) -> bool
+    requires { ⌜ Closable (now bytes) count (implicationOf x) ⌝ }
+    ensures { λ r. ⌜ r ≡ closed (flatsIn (now (bytes .entry)) count) (implicationOf x) ⌝ }
 {
-    let b = byte(bytes, at + 1);
-    if b == 255 {
+    if x.b == ipl::BOTTOM {
         return true;
     }
-    has_flat(
-        bytes,
-        count,
-        AtomSet::single(b),
-        AtomSet::single(byte(bytes, at + 2)),
-    )
-}
-
-// Each implication from `start` on. `all_closed` meets the ranges.
-fn each_closed(bytes: &[u8], flats: usize, start: usize, count: usize) -> bool
-    requires { ⌜ EachWithin (now bytes) flats start count ⌝ }
-    ensures { λ r. ⌜ r ≡ all (closed (flatsIn (now (bytes .entry)) flats)) (implicationsIn (now (bytes .entry)) start count) ⌝ }
-{
-    let mut i = 0;
-    while i < count {
-        if !is_closed(bytes, flats, start + 3 * i) {
-            return false;
-        }
-        i += 1;
-    }
-    true
+    has_flat(bytes, count, AtomSet::single(x.b), AtomSet::single(x.c))
 }
 
 // `check_bodies` meets the ranges.
@@ -76,5 +65,16 @@ pub fn all_closed(bytes: &[u8], k: Contents) -> bool
     requires { ⌜ Ranged (now bytes) k ⌝ }
     ensures { λ r. ⌜ r ≡ allClosed (problemBy (now (bytes .entry)) k) ⌝ }
 {
-    each_closed(bytes, k.flats, 38 + 16 * k.flats, k.implications)
+    let flats = k.flats as usize;
+    let count = k.implications as usize;
+    let start = k.implications_at();
+    let mut i = 0;
+    while i < count {
+        let x = rows::implication_from(bytes, start + IMPLICATION_BYTES * i);
+        if !is_closed(bytes, flats, x) {
+            return false;
+        }
+        i += 1;
+    }
+    true
 }

@@ -1,9 +1,15 @@
 // Worlds: they differ, each includes the first, satisfies the flat clauses and realizes each implication, and the first lacks
 // the goal.
 use super::Contents;
+use super::ImplicationRow;
 use super::Wrong;
 use super::bytes_at::byte;
 use super::flat_table::load_column;
+use super::places::FLATS_AT;
+use super::places::IMPLICATION_BYTES;
+use super::places::SET_BYTES;
+use super::places::WORLD_BYTES;
+use super::rows;
 use atoms::AtomSet;
 ghost use mathlib.Core.Bool.{true};
 ghost use mathlib.Core.Path.{_≡_};
@@ -14,19 +20,20 @@ ghost use Rattle.atoms.specs.Words.{num};
 ghost use Rattle.ipl.specs.Lists.{all, any};
 ghost use Rattle.ipl.specs.Clause.{beyond, realizes};
 ghost use Rattle.certificate.specs.Certificate.{refuted};
-ghost use Rattle.certificate.specs.Layout.{implicationFrom};
+ghost use Rattle.certificate.specs.Format.{setBytes};
+ghost use Rattle.certificate.specs.Layout.{worldsIn};
 ghost use Rattle.certificate.specs.Judge.{worldRight, wrongPlace};
-ghost use Rattle.certificate.specs.Checked.{Ranged, problemBy, worldsBy, worldsIn, implicationsIn, WorldsReady, placeOf};
+ghost use Rattle.certificate.specs.ReadBack.{implicationOf};
+ghost use Rattle.certificate.specs.Checked.{Sized, Ranged, problemBy, worldsBy, WorldsReady, placeOf};
 
-// Whether u strictly includes m, has a and lacks b of the implication at `at`.
-fn is_beyond(bytes: &[u8], at: usize, m: AtomSet, u: AtomSet) -> bool
-    requires { ⌜ at + 3 ≤ length (now bytes) ⌝ }
-    ensures { λ r. ⌜ r ≡ beyond (implicationFrom (now (bytes .entry)) at) (num m) (num u) ⌝ }
+// Whether u strictly includes m, has a and lacks b.
+fn is_beyond(x: ImplicationRow, m: AtomSet, u: AtomSet) -> bool
+    ensures { λ r. ⌜ r ≡ beyond (implicationOf x) (num m) (num u) ⌝ }
 {
     if m.within(u) {
         if !m.same(u) {
-            if u.has(byte(bytes, at)) {
-                return !u.has(byte(bytes, at + 1));
+            if u.has(x.a) {
+                return !u.has(x.b);
             }
         }
     }
@@ -34,13 +41,13 @@ fn is_beyond(bytes: &[u8], at: usize, m: AtomSet, u: AtomSet) -> bool
 }
 
 // Whether a world from `start` on is beyond m.
-fn has_beyond(bytes: &[u8], at: usize, m: AtomSet, start: usize, count: usize) -> bool
-    requires { ⌜ (at + 3 ≤ length (now bytes)) × (start + 8 * count ≤ length (now bytes)) ⌝ }
-    ensures { λ r. ⌜ r ≡ any (beyond (implicationFrom (now (bytes .entry)) at) (num m)) (worldsIn (now (bytes .entry)) start count) ⌝ }
+fn has_beyond(bytes: &[u8], start: usize, count: usize, x: ImplicationRow, m: AtomSet) -> bool
+    requires { ⌜ start + setBytes * count ≤ length (now bytes) ⌝ }
+    ensures { λ r. ⌜ r ≡ any (beyond (implicationOf x) (num m)) (worldsIn (now (bytes .entry)) start count) ⌝ }
 {
     let mut i = 0;
     while i < count {
-        if is_beyond(bytes, at, m, atoms::load(bytes, start + 8 * i)) {
+        if is_beyond(x, m, atoms::load(bytes, start + WORLD_BYTES * i)) {
             return true;
         }
         i += 1;
@@ -48,38 +55,36 @@ fn has_beyond(bytes: &[u8], at: usize, m: AtomSet, start: usize, count: usize) -
     false
 }
 
-// Whether m realizes the implication at `at` within the worlds from `start` on.
-fn is_realized(bytes: &[u8], at: usize, m: AtomSet, start: usize, count: usize) -> bool
-    requires { ⌜ (at + 3 ≤ length (now bytes)) × (start + 8 * count ≤ length (now bytes)) ⌝ }
-    ensures { λ r. ⌜ r ≡ realizes (worldsIn (now (bytes .entry)) start count) (num m) (implicationFrom (now (bytes .entry)) at) ⌝ }
+// Whether m realizes the implication within the worlds from `start` on.
+fn is_realized(bytes: &[u8], start: usize, count: usize, x: ImplicationRow, m: AtomSet) -> bool
+    requires { ⌜ start + setBytes * count ≤ length (now bytes) ⌝ }
+    ensures { λ r. ⌜ r ≡ realizes (worldsIn (now (bytes .entry)) start count) (num m) (implicationOf x) ⌝ }
 {
-    if m.has(byte(bytes, at)) {
+    if m.has(x.a) {
         return true;
     }
-    if m.has(byte(bytes, at + 1)) {
+    if m.has(x.b) {
         return true;
     }
-    if m.has(byte(bytes, at + 2)) {
+    if m.has(x.c) {
         return true;
     }
-    has_beyond(bytes, at, m, start, count)
+    has_beyond(bytes, start, count, x, m)
 }
 
-// The same of each implication from `first` on.
-fn each_realized(
-    bytes: &[u8],
-    first: usize,
-    implications: usize,
-    m: AtomSet,
-    start: usize,
-    count: usize,
-) -> bool
-    requires { ⌜ (first + 3 * implications ≤ length (now bytes)) × (start + 8 * count ≤ length (now bytes)) ⌝ }
-    ensures { λ r. ⌜ r ≡ all (realizes (worldsIn (now (bytes .entry)) start count) (num m)) (implicationsIn (now (bytes .entry)) first implications) ⌝ }
+// Whether m realizes each implication.
+fn each_realized(bytes: &[u8], k: Contents, m: AtomSet) -> bool
+    requires { ⌜ Sized (now bytes) k × (k .refuting ≡ true) ⌝ }
+    ensures { λ r. ⌜ r ≡ all (realizes (worldsBy (now (bytes .entry)) k) (num m)) (problemBy (now (bytes .entry)) k .implications) ⌝ }
 {
+    let count = k.implications as usize;
+    let first = k.implications_at();
+    let start = k.claim_at();
+    let worlds = k.rows as usize;
     let mut i = 0;
-    while i < implications {
-        if !is_realized(bytes, first + 3 * i, m, start, count) {
+    while i < count {
+        let x = rows::implication_from(bytes, first + IMPLICATION_BYTES * i);
+        if !is_realized(bytes, start, worlds, x, m) {
             return false;
         }
         i += 1;
@@ -89,12 +94,12 @@ fn each_realized(
 
 // Whether m is one of the worlds from `start` on.
 fn is_listed(bytes: &[u8], start: usize, count: usize, m: AtomSet) -> bool
-    requires { ⌜ start + 8 * count ≤ length (now bytes) ⌝ }
+    requires { ⌜ start + setBytes * count ≤ length (now bytes) ⌝ }
     ensures { λ r. ⌜ r ≡ any (eqb (num m)) (worldsIn (now (bytes .entry)) start count) ⌝ }
 {
     let mut i = 0;
     while i < count {
-        if m.same(atoms::load(bytes, start + 8 * i)) {
+        if m.same(atoms::load(bytes, start + WORLD_BYTES * i)) {
             return true;
         }
         i += 1;
@@ -107,24 +112,22 @@ fn is_right<'a>(bytes: &[u8], k: Contents, i: usize, left: &'a [u64], right: &'a
     requires { ⌜ WorldsReady (now bytes) k (now left) (now right) × (i < k .rows) ⌝ }
     ensures { λ r. ⌜ r ≡ worldRight (problemBy (now (bytes .entry)) k) (worldsBy (now (bytes .entry)) k) i ⌝ }
 {
-    let first = 38 + 16 * k.flats;
-    let goal = first + 3 * k.implications;
-    let start = goal + 1;
-    let m = atoms::load(bytes, start + 8 * i);
+    let start = k.claim_at();
+    let m = atoms::load(bytes, start + WORLD_BYTES * i);
     if is_listed(bytes, start, i, m) {
         return false;
     }
     if !atoms::load(bytes, start).within(m) {
         return false;
     }
-    if !sat::all_hold(left, right, k.flats, m) {
+    if !sat::all_hold(left, right, k.flats as usize, m) {
         return false;
     }
-    if !each_realized(bytes, first, k.implications, m, start, k.rows) {
+    if !each_realized(bytes, k, m) {
         return false;
     }
     if i == 0 {
-        return !m.has(byte(bytes, goal));
+        return !m.has(byte(bytes, k.goal_at()));
     }
     true
 }
@@ -133,7 +136,7 @@ fn judge_worlds<'a>(bytes: &[u8], k: Contents, left: &'a [u64], right: &'a [u64]
     requires { ⌜ WorldsReady (now bytes) k (now left) (now right) ⌝ }
     ensures { λ r. ⌜ placeOf r ≡ wrongPlace (problemBy (now (bytes .entry)) k) (refuted (worldsBy (now (bytes .entry)) k)) ⌝ }
 {
-    let count = k.rows;
+    let count = k.rows as usize;
     let mut i = 0;
     while i < count {
         if !is_right(bytes, k, i, left, right) {
@@ -149,9 +152,9 @@ pub fn wrong_world(bytes: &[u8], k: Contents) -> Wrong
     requires { ⌜ Ranged (now bytes) k × (k .refuting ≡ true) ⌝ }
     ensures { λ r. ⌜ placeOf r ≡ wrongPlace (problemBy (now (bytes .entry)) k) (refuted (worldsBy (now (bytes .entry)) k)) ⌝ }
 {
-    let mut left = [0u64; 512 * atoms::WORDS];
-    let mut right = [0u64; 512 * atoms::WORDS];
-    load_column(bytes, 38, k.flats, &mut left);
-    load_column(bytes, 46, k.flats, &mut right);
+    let mut left = [0u64; ipl::FLATS * atoms::WORDS];
+    let mut right = [0u64; ipl::FLATS * atoms::WORDS];
+    load_column(bytes, FLATS_AT, k.flats as usize, &mut left);
+    load_column(bytes, FLATS_AT + SET_BYTES, k.flats as usize, &mut right);
     judge_worlds(bytes, k, &left, &right)
 }

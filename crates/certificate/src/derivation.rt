@@ -3,6 +3,12 @@ use super::Contents;
 use super::Wrong;
 use super::bytes_at::byte;
 use super::flat_table::load_column;
+use super::places::ATOM_COUNT_AT;
+use super::places::FLATS_AT;
+use super::places::IMPLICATION_BYTES;
+use super::places::SET_BYTES;
+use super::places::STEP_BYTES;
+use super::rows;
 use atoms::AtomSet;
 ghost use mathlib.Core.Bool.{false};
 ghost use mathlib.Core.Path.{_≡_};
@@ -38,25 +44,20 @@ fn judge_step(bytes: &[u8], k: Contents, i: usize, left: &mut [u64], right: &mut
     requires { ⌜ StepReady (now bytes) k i (now left) (now right) ⌝ }
     ensures { λ r. ⌜ StepJudged (now (bytes .entry)) k i (now (left .entry)) (now (right .entry)) (now (left .exit)) (now (right .exit)) r ⌝ }
 {
-    let start = 38 + 16 * k.flats;
-    let at = start + 3 * k.implications + 1 + 9 * i;
-    let row = start + 3 * (byte(bytes, at) as usize);
-    let assumed = atoms::load(bytes, at + 1);
-    let last = k.flats + i;
+    let step = rows::step_from(bytes, k.claim_at() + STEP_BYTES * i);
+    let place = k.implications_at() + IMPLICATION_BYTES * step.number as usize;
+    let x = rows::implication_from(bytes, place);
+    let last = k.flats as usize + i;
     let proved = proves(
         left,
         right,
         last,
-        byte(bytes, 37),
-        assumed,
-        byte(bytes, row + 1),
+        byte(bytes, ATOM_COUNT_AT),
+        step.assumed,
+        x.b,
     );
-    atoms::set_row(
-        left,
-        last,
-        assumed.without(AtomSet::single(byte(bytes, row))),
-    );
-    atoms::set_row(right, last, AtomSet::single(byte(bytes, row + 2)));
+    atoms::set_row(left, last, step.assumed.without(AtomSet::single(x.a)));
+    atoms::set_row(right, last, AtomSet::single(x.c));
     proved
 }
 
@@ -65,7 +66,7 @@ fn judge_steps(bytes: &[u8], k: Contents, left: &mut [u64], right: &mut [u64]) -
     requires { ⌜ StepsReady (now bytes) k (now left) (now right) ⌝ }
     ensures { λ r. ⌜ placeOf r ≡ wrongPlace (problemBy (now (bytes .entry)) k) (valid (stepsBy (now (bytes .entry)) k)) ⌝ }
 {
-    let count = k.rows;
+    let count = k.rows as usize;
     let mut i = 0;
     while i < count {
         if !judge_step(bytes, k, i, left, right) {
@@ -73,12 +74,12 @@ fn judge_steps(bytes: &[u8], k: Contents, left: &mut [u64], right: &mut [u64]) -
         }
         i += 1;
     }
-    let goal = byte(bytes, 38 + 16 * k.flats + 3 * k.implications);
+    let goal = byte(bytes, k.goal_at());
     if proves(
         left,
         right,
-        k.flats + count,
-        byte(bytes, 37),
+        k.flats as usize + count,
+        byte(bytes, ATOM_COUNT_AT),
         AtomSet::EMPTY,
         goal,
     ) {
@@ -93,9 +94,9 @@ pub fn wrong_step(bytes: &[u8], k: Contents) -> Wrong
     requires { ⌜ Ranged (now bytes) k × (k .refuting ≡ false) ⌝ }
     ensures { λ r. ⌜ placeOf r ≡ wrongPlace (problemBy (now (bytes .entry)) k) (valid (stepsBy (now (bytes .entry)) k)) ⌝ }
 {
-    let mut left = [0u64; 1024 * atoms::WORDS];
-    let mut right = [0u64; 1024 * atoms::WORDS];
-    load_column(bytes, 38, k.flats, &mut left);
-    load_column(bytes, 46, k.flats, &mut right);
+    let mut left = [0u64; ipl::KNOWN * atoms::WORDS];
+    let mut right = [0u64; ipl::KNOWN * atoms::WORDS];
+    load_column(bytes, FLATS_AT, k.flats as usize, &mut left);
+    load_column(bytes, FLATS_AT + SET_BYTES, k.flats as usize, &mut right);
     judge_steps(bytes, k, &mut left, &mut right)
 }

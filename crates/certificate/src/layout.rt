@@ -1,14 +1,19 @@
 // The table of contents: four entries whose bodies follow in order, without gaps, to the end.
 use super::Contents;
 use super::bytes_at::byte;
-use atoms::little_endian::number;
+use super::places;
+use super::reader;
+use super::reader::Row;
 ghost use mathlib.Core.Path.{_≡_};
-ghost use Prim.Native.Nat.{_*_, _^_, _<_};
-ghost use Rattle.certificate.specs.Format.{claimKind, claimWidth, claimLeast};
-ghost use Rattle.certificate.specs.Checked.{EntryRead, LayoutRead, ClaimRead};
+ghost use Prim.Native.Nat.{_+_, _<_};
+ghost use lib.Dec.{eqb};
+ghost use lib.ListN.{length};
+ghost use Rattle.certificate.specs.Format.{claimLeast, entryStart};
+ghost use Rattle.certificate.specs.Checked.{EntryRead, ClaimRead, BeginningRead, LayoutRead};
 
+// The rows that an entry tells, and the position after it.
 pub enum Entry {
-    Rows(usize),
+    Rows(u32, usize),
     Missing,
 }
 
@@ -17,19 +22,8 @@ pub enum Layout {
     Refused(u8),
 }
 
-fn claim_kind(refuting: bool) -> u8
-    ensures { λ r. ⌜ r ≡ claimKind refuting ⌝ }
-{
-    if refuting { 5 } else { 4 }
-}
-
-fn claim_width(refuting: bool) -> usize
-    ensures { λ r. ⌜ r ≡ claimWidth refuting ⌝ }
-{
-    if refuting { 8 } else { 9 }
-}
-
-fn claim_least(refuting: bool) -> usize
+// The fewest rows of a claim.
+fn claim_least(refuting: bool) -> u32
     ensures { λ r. ⌜ r ≡ claimLeast refuting ⌝ }
 {
     if refuting { 1 } else { 0 }
@@ -37,16 +31,21 @@ fn claim_least(refuting: bool) -> usize
 
 // The entry at `at`, of this kind and start: the rows of a width in its body after `extra` bytes.
 fn read_entry(bytes: &[u8], at: usize, kind: u8, start: usize, extra: usize, width: usize) -> Entry
-    requires { ⌜ (at < 37) × (0 < width) ⌝ }
+    requires { ⌜ 0 < width ⌝ }
     ensures { λ r. ⌜ EntryRead (now (bytes .entry)) at kind start extra width r ⌝ }
 {
-    if byte(bytes, at) != kind {
+    let taken = reader::take(bytes, at);
+    let row = taken.row;
+    let Row::Entry(found, begins, size) = row else {
+        return Entry::Missing;
+    };
+    if found != kind {
         return Entry::Missing;
     }
-    if number(bytes, at + 1, 4) as usize != start {
+    if begins as usize != start {
         return Entry::Missing;
     }
-    let size = number(bytes, at + 5, 4) as usize;
+    let size = size as usize;
     if size < extra {
         return Entry::Missing;
     }
@@ -54,51 +53,100 @@ fn read_entry(bytes: &[u8], at: usize, kind: u8, start: usize, extra: usize, wid
     if extra + width * count != size {
         return Entry::Missing;
     }
-    Entry::Rows(count)
+    Entry::Rows(count as u32, taken.next)
 }
 
-// The last entry, and the end of the bytes. `read` meets the bounds by the lengths of the other bodies.
-fn read_claim(bytes: &[u8], flats: usize, implications: usize, refuting: bool) -> Layout
-    requires { ⌜ (16 * flats < 2 ^ 32) × (3 * implications < 2 ^ 32) ⌝ }
-    ensures { λ r. ⌜ ClaimRead (now (bytes .entry)) flats implications refuting r ⌝ }
+// Whether `more` bytes after those seen make up the length; the sum might not fit.
+fn makes_up(seen: usize, more: usize, length: usize) -> bool
+    ensures { λ r. ⌜ r ≡ eqb (seen + more) length ⌝ }
 {
-    let start = 38 + 16 * flats + 3 * implications + 1;
-    let width = claim_width(refuting);
-    let Entry::Rows(rows) = read_entry(bytes, 28, claim_kind(refuting), start, 0, width) else {
+    if seen <= length {
+        length - seen == more
+    } else {
+        false
+    }
+}
+
+// The last entry, and the end of all bytes. `read_beginning` has read the other counts.
+fn read_claim(bytes: &[u8], more: usize, at: usize, counts: Contents) -> Layout
+    requires { ⌜ at ≡ entryStart 3 ⌝ }
+    ensures { λ r. ⌜ ClaimRead (now (bytes .entry)) (length (now (bytes .entry)) + more) (counts .flats) (counts .implications) r ⌝ }
+{
+    let refuting = byte(bytes, at) == places::WORLD_KIND;
+    let width = places::claim_width(refuting);
+    let Entry::Rows(rows, _) = read_entry(
+        bytes,
+        at,
+        places::claim_kind(refuting),
+        counts.claim_at(),
+        0,
+        width,
+    ) else {
         return Layout::Refused(13);
     };
     if rows < claim_least(refuting) {
         return Layout::Refused(13);
     }
-    if bytes.len() != start + width * rows {
-        return Layout::Refused(13);
-    }
-    Layout::Read(Contents {
-        flats,
-        implications,
+    let k = Contents {
+        flats: counts.flats,
+        implications: counts.implications,
         refuting,
         rows,
-    })
-}
-
-pub fn read(bytes: &[u8]) -> Layout
-    ensures { λ r. ⌜ LayoutRead (now (bytes .entry)) r ⌝ }
-{
-    if byte(bytes, 0) != 4 {
+    };
+    if !makes_up(bytes.len(), more, k.length()) {
         return Layout::Refused(13);
     }
-    let Entry::Rows(flats) = read_entry(bytes, 1, 1, 37, 1, 16) else {
+    Layout::Read(k)
+}
+
+// The layout of a certificate of which these bytes are the beginning and `more` follow.
+pub fn read_beginning(bytes: &[u8], more: usize) -> Layout
+    ensures { λ r. ⌜ BeginningRead (now (bytes .entry)) (length (now (bytes .entry)) + more) r ⌝ }
+{
+    if byte(bytes, 0) != places::ENTRIES {
+        return Layout::Refused(13);
+    }
+    let mut counts = Contents::NONE;
+    let Entry::Rows(flats, second) = read_entry(
+        bytes,
+        places::ENTRIES_AT,
+        places::FLAT_KIND,
+        places::ATOM_COUNT_AT,
+        1,
+        places::FLAT_BYTES,
+    ) else {
         return Layout::Refused(13);
     };
-    let Entry::Rows(implications) = read_entry(bytes, 10, 2, 38 + 16 * flats, 0, 3) else {
+    counts.flats = flats;
+    let Entry::Rows(implications, third) = read_entry(
+        bytes,
+        second,
+        places::IMPLICATION_KIND,
+        counts.implications_at(),
+        0,
+        places::IMPLICATION_BYTES,
+    ) else {
         return Layout::Refused(13);
     };
-    let goal = 38 + 16 * flats + 3 * implications;
-    let Entry::Rows(goals) = read_entry(bytes, 19, 3, goal, 0, 1) else {
+    counts.implications = implications;
+    let Entry::Rows(goals, last) = read_entry(
+        bytes,
+        third,
+        places::GOAL_KIND,
+        counts.goal_at(),
+        0,
+        1,
+    ) else {
         return Layout::Refused(13);
     };
     if goals != 1 {
         return Layout::Refused(13);
     }
-    read_claim(bytes, flats, implications, byte(bytes, 28) == 5)
+    read_claim(bytes, more, last, counts)
+}
+
+pub fn read(bytes: &[u8]) -> Layout
+    ensures { λ r. ⌜ LayoutRead (now (bytes .entry)) r ⌝ }
+{
+    read_beginning(bytes, 0)
 }

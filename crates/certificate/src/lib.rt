@@ -4,13 +4,13 @@ ghost use mathlib.Core.Path.{_≡_};
 ghost use Prim.Native.Nat.{min};
 ghost use Rattle.certificate.specs.Format.{longest};
 ghost use Rattle.certificate.specs.Judge.{judge, judgeRead, wrongPlace};
-ghost use Rattle.certificate.specs.Checked.{judgementOf, problemBy, claimBy, Sized, Ranged, placeOf};
+ghost use Rattle.certificate.specs.Checked.{judgementOf, BeginningChecked, problemBy, claimBy, Sized, Ranged, placeOf};
 
 mod bytes_at;
 mod closing_clauses;
 mod countermodel;
 mod read_back;
-pub mod reader;
+mod reader;
 
 pub use read_back::atom_count;
 pub use read_back::flat_at;
@@ -22,14 +22,16 @@ pub use read_back::world_at;
 mod derivation;
 mod flat_table;
 mod layout;
+pub mod places;
 mod ranges;
+mod rows;
 
-// How many rows each body has; whether the last one holds worlds or steps.
+// How many rows each body has, a number of 32 bits as its length is; whether the last one holds worlds or steps.
 pub struct Contents {
-    pub flats: usize,
-    pub implications: usize,
+    pub flats: u32,
+    pub implications: u32,
     pub refuting: bool,
-    pub rows: usize,
+    pub rows: u32,
 }
 
 // Accepted, or the number of the refusal with the place of a wrong claim.
@@ -73,6 +75,20 @@ pub fn check(bytes: &[u8]) -> Checked
     }
 }
 
+// Judges a certificate of which these bytes are the beginning and `more` follow unseen. Layout needs only the contents and the length
+// of all bytes; one that is longer than the longest in range has a count over its table.
+pub fn check_beginning(bytes: &[u8], more: usize) -> Checked
+    ensures { λ r. ⌜ BeginningChecked (now (bytes .entry)) more r ⌝ }
+{
+    if more == 0 {
+        return check(bytes);
+    }
+    match layout::read_beginning(bytes, more) {
+        layout::Layout::Read(_) => Checked::Refused(14, 0),
+        layout::Layout::Refused(number) => Checked::Refused(number, 0),
+    }
+}
+
 // Judges the bodies. `check` meets the size by the layout.
 fn check_bodies(bytes: &[u8], k: Contents) -> Checked
     requires { ⌜ Sized (now bytes) k ⌝ }
@@ -112,5 +128,11 @@ fn at_most(x: usize, most: usize) -> usize
 pub fn length_bound(flats: usize, implications: usize) -> usize
     ensures { λ r. ⌜ r ≡ longest flats implications ⌝ }
 {
-    39 + 16 * at_most(flats, 512) + 3 * at_most(implications, 128) + 4608
+    let k = Contents {
+        flats: at_most(flats, ipl::FLATS) as u32,
+        implications: at_most(implications, ipl::IMPLICATIONS) as u32,
+        refuting: false,
+        rows: ipl::STEPS as u32,
+    };
+    k.length()
 }

@@ -1,52 +1,32 @@
 // Every number and count in range (refusal 14).
 use super::Contents;
 use super::bytes_at::byte;
-use atoms::AtomSet;
+use super::places::ATOM_COUNT_AT;
+use super::places::FLAT_BYTES;
+use super::places::FLATS_AT;
+use super::places::IMPLICATION_BYTES;
+use super::places::STEP_BYTES;
+use super::places::WORLD_BYTES;
+use super::rows;
 ghost use mathlib.Core.Path.{_≡_};
 ghost use Prim.Native.Nat.{_+_, _*_, _≤_};
 ghost use lib.ListN.{length};
-ghost use Rattle.atoms.specs.Words.{num};
 ghost use Rattle.ipl.specs.Lists.{all};
-ghost use Rattle.ipl.specs.Range.{atomOrBot, setInRange, flatInRange, implicationInRange};
+ghost use Rattle.ipl.specs.Range.{setInRange, flatInRange, implicationInRange};
 ghost use Rattle.ipl.specs.Search.{stepInRange};
-ghost use Rattle.certificate.specs.Layout.{flatFrom, implicationFrom, stepFrom};
+ghost use Rattle.certificate.specs.Format.{setBytes, implicationBytes, stepBytes, implicationStart};
+ghost use Rattle.certificate.specs.Layout.{flatsIn, implicationsIn, stepsIn, worldsIn};
 ghost use Rattle.certificate.specs.Judge.{claimInRange, countsInRange, inRange};
-ghost use Rattle.certificate.specs.Checked.{Sized, problemBy, claimBy, flatsIn, implicationsIn, stepsIn, worldsIn};
-
-// An atom below n, or ⊥.
-fn atom_or_bottom(n: u8, x: u8) -> bool
-    ensures { λ r. ⌜ r ≡ atomOrBot n x ⌝ }
-{
-    if x < n { true } else { x == 255 }
-}
-
-// A set of atoms below n.
-fn set_in_range(n: u8, s: AtomSet) -> bool
-    ensures { λ r. ⌜ r ≡ setInRange n (num s) ⌝ }
-{
-    s.bounded();
-    s.within(AtomSet::below(n))
-}
-
-// The flat clause at `at`.
-fn flat_in_range(bytes: &[u8], at: usize, n: u8) -> bool
-    requires { ⌜ at + 16 ≤ length (now bytes) ⌝ }
-    ensures { λ r. ⌜ r ≡ flatInRange n (flatFrom (now (bytes .entry)) at) ⌝ }
-{
-    if set_in_range(n, atoms::load(bytes, at)) {
-        set_in_range(n, atoms::load(bytes, at + 8))
-    } else {
-        false
-    }
-}
+ghost use Rattle.certificate.specs.Checked.{Sized, problemBy, claimBy};
 
 fn flats_in_range(bytes: &[u8], count: usize, n: u8) -> bool
-    requires { ⌜ 38 + 16 * count ≤ length (now bytes) ⌝ }
+    requires { ⌜ implicationStart count ≤ length (now bytes) ⌝ }
     ensures { λ r. ⌜ r ≡ all (flatInRange n) (flatsIn (now (bytes .entry)) count) ⌝ }
 {
     let mut i = 0;
     while i < count {
-        if !flat_in_range(bytes, 38 + 16 * i, n) {
+        let f = rows::flat_from(bytes, FLATS_AT + FLAT_BYTES * i);
+        if !ipl::flat_in_range(n, f.left, f.right) {
             return false;
         }
         i += 1;
@@ -54,26 +34,14 @@ fn flats_in_range(bytes: &[u8], count: usize, n: u8) -> bool
     true
 }
 
-// The implication at `at`.
-fn implication_in_range(bytes: &[u8], at: usize, n: u8) -> bool
-    requires { ⌜ at + 3 ≤ length (now bytes) ⌝ }
-    ensures { λ r. ⌜ r ≡ implicationInRange n (implicationFrom (now (bytes .entry)) at) ⌝ }
-{
-    if byte(bytes, at) < n {
-        if atom_or_bottom(n, byte(bytes, at + 1)) {
-            return atom_or_bottom(n, byte(bytes, at + 2));
-        }
-    }
-    false
-}
-
 fn implications_in_range(bytes: &[u8], start: usize, count: usize, n: u8) -> bool
-    requires { ⌜ start + 3 * count ≤ length (now bytes) ⌝ }
+    requires { ⌜ start + implicationBytes * count ≤ length (now bytes) ⌝ }
     ensures { λ r. ⌜ r ≡ all (implicationInRange n) (implicationsIn (now (bytes .entry)) start count) ⌝ }
 {
     let mut i = 0;
     while i < count {
-        if !implication_in_range(bytes, start + 3 * i, n) {
+        let x = rows::implication_from(bytes, start + IMPLICATION_BYTES * i);
+        if !ipl::implication_in_range(n, x.a, x.b, x.c) {
             return false;
         }
         i += 1;
@@ -81,25 +49,15 @@ fn implications_in_range(bytes: &[u8], start: usize, count: usize, n: u8) -> boo
     true
 }
 
-// The step at `at`, over m implications.
-fn step_in_range(bytes: &[u8], at: usize, n: u8, m: usize) -> bool
-    requires { ⌜ at + 9 ≤ length (now bytes) ⌝ }
-    ensures { λ r. ⌜ r ≡ stepInRange n m (stepFrom (now (bytes .entry)) at) ⌝ }
-{
-    if (byte(bytes, at) as usize) < m {
-        set_in_range(n, atoms::load(bytes, at + 1))
-    } else {
-        false
-    }
-}
-
+// Steps over m implications.
 fn steps_in_range(bytes: &[u8], start: usize, count: usize, n: u8, m: usize) -> bool
-    requires { ⌜ start + 9 * count ≤ length (now bytes) ⌝ }
+    requires { ⌜ start + stepBytes * count ≤ length (now bytes) ⌝ }
     ensures { λ r. ⌜ r ≡ all (stepInRange n m) (stepsIn (now (bytes .entry)) start count) ⌝ }
 {
     let mut i = 0;
     while i < count {
-        if !step_in_range(bytes, start + 9 * i, n, m) {
+        let s = rows::step_from(bytes, start + STEP_BYTES * i);
+        if !ipl::step_in_range(n, m, s.number, s.assumed) {
             return false;
         }
         i += 1;
@@ -108,12 +66,12 @@ fn steps_in_range(bytes: &[u8], start: usize, count: usize, n: u8, m: usize) -> 
 }
 
 fn worlds_in_range(bytes: &[u8], start: usize, count: usize, n: u8) -> bool
-    requires { ⌜ start + 8 * count ≤ length (now bytes) ⌝ }
+    requires { ⌜ start + setBytes * count ≤ length (now bytes) ⌝ }
     ensures { λ r. ⌜ r ≡ all (setInRange n) (worldsIn (now (bytes .entry)) start count) ⌝ }
 {
     let mut i = 0;
     while i < count {
-        if !set_in_range(n, atoms::load(bytes, start + 8 * i)) {
+        if !ipl::set_in_range(n, atoms::load(bytes, start + WORLD_BYTES * i)) {
             return false;
         }
         i += 1;
@@ -125,15 +83,15 @@ fn claim_in_range(bytes: &[u8], k: Contents, n: u8) -> bool
     requires { ⌜ Sized (now bytes) k ⌝ }
     ensures { λ r. ⌜ r ≡ claimInRange n (k .implications) (claimBy (now (bytes .entry)) k) ⌝ }
 {
-    let start = 38 + 16 * k.flats + 3 * k.implications + 1;
+    let count = k.rows as usize;
     if k.refuting {
-        if k.rows <= 256 {
-            return worlds_in_range(bytes, start, k.rows, n);
+        if count <= ipl::WORLDS {
+            return worlds_in_range(bytes, k.claim_at(), count, n);
         }
         return false;
     }
-    if k.rows <= 512 {
-        return steps_in_range(bytes, start, k.rows, n, k.implications);
+    if count <= ipl::STEPS {
+        return steps_in_range(bytes, k.claim_at(), count, n, k.implications as usize);
     }
     false
 }
@@ -142,11 +100,9 @@ fn claim_in_range(bytes: &[u8], k: Contents, n: u8) -> bool
 fn counts_in_range(n: u8, k: Contents) -> bool
     ensures { λ r. ⌜ r ≡ countsInRange n (k .flats) (k .implications) ⌝ }
 {
-    if 1 <= n {
-        if AtomSet::fits(n) {
-            if k.flats <= 512 {
-                return k.implications <= 128;
-            }
+    if ipl::count_in_range(n) {
+        if k.flats as usize <= ipl::FLATS {
+            return k.implications as usize <= ipl::IMPLICATIONS;
         }
     }
     false
@@ -157,18 +113,17 @@ pub fn in_range(bytes: &[u8], k: Contents) -> bool
     requires { ⌜ Sized (now bytes) k ⌝ }
     ensures { λ r. ⌜ r ≡ inRange (problemBy (now (bytes .entry)) k) (claimBy (now (bytes .entry)) k) ⌝ }
 {
-    let n = byte(bytes, 37);
+    let n = byte(bytes, ATOM_COUNT_AT);
     if !counts_in_range(n, k) {
         return false;
     }
-    let start = 38 + 16 * k.flats;
-    if !atom_or_bottom(n, byte(bytes, start + 3 * k.implications)) {
+    if !ipl::atom_or_bottom(n, byte(bytes, k.goal_at())) {
         return false;
     }
-    if !flats_in_range(bytes, k.flats, n) {
+    if !flats_in_range(bytes, k.flats as usize, n) {
         return false;
     }
-    if !implications_in_range(bytes, start, k.implications, n) {
+    if !implications_in_range(bytes, k.implications_at(), k.implications as usize, n) {
         return false;
     }
     claim_in_range(bytes, k, n)

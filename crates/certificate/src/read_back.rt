@@ -6,6 +6,13 @@ use super::StepRow;
 use super::bytes_at::byte;
 use super::layout;
 use super::layout::Layout;
+use super::places::ATOM_COUNT_AT;
+use super::places::FLAT_BYTES;
+use super::places::FLATS_AT;
+use super::places::IMPLICATION_BYTES;
+use super::places::STEP_BYTES;
+use super::places::WORLD_BYTES;
+use super::rows;
 use atoms::AtomSet;
 ghost use mathlib.Core.Path.{_≡_};
 ghost use Rattle.atoms.specs.Words.{num};
@@ -16,7 +23,7 @@ pub fn atom_count(bytes: &[u8]) -> u8
     ensures { λ r. ⌜ r ≡ atomsRead (now (bytes .entry)) ⌝ }
 {
     match layout::read(bytes) {
-        Layout::Read(_) => byte(bytes, 37),
+        Layout::Read(_) => byte(bytes, ATOM_COUNT_AT),
         Layout::Refused(_) => 0,
     }
 }
@@ -25,8 +32,8 @@ pub fn goal(bytes: &[u8]) -> u8
     ensures { λ r. ⌜ r ≡ goalRead (now (bytes .entry)) ⌝ }
 {
     match layout::read(bytes) {
-        Layout::Read(k) => byte(bytes, 38 + 16 * k.flats + 3 * k.implications),
-        Layout::Refused(_) => 255,
+        Layout::Read(k) => byte(bytes, k.goal_at()),
+        Layout::Refused(_) => ipl::BOTTOM,
     }
 }
 
@@ -36,12 +43,7 @@ fn kept(bytes: &[u8]) -> Contents
 {
     match layout::read(bytes) {
         Layout::Read(k) => k,
-        Layout::Refused(_) => Contents {
-            flats: 0,
-            implications: 0,
-            refuting: false,
-            rows: 0,
-        },
+        Layout::Refused(_) => Contents::NONE,
     }
 }
 
@@ -50,12 +52,8 @@ pub fn flat_at(bytes: &[u8], i: usize) -> FlatRow
     ensures { λ r. ⌜ flatOf r ≡ flatRead (now (bytes .entry)) i ⌝ }
 {
     let k = kept(bytes);
-    if i < k.flats {
-        let at = 38 + 16 * i;
-        FlatRow {
-            left: atoms::load(bytes, at),
-            right: atoms::load(bytes, at + 8),
-        }
+    if i < k.flats as usize {
+        rows::flat_from(bytes, FLATS_AT + FLAT_BYTES * i)
     } else {
         FlatRow {
             left: AtomSet::EMPTY,
@@ -69,13 +67,8 @@ pub fn implication_at(bytes: &[u8], i: usize) -> ImplicationRow
     ensures { λ r. ⌜ implicationOf r ≡ implicationRead (now (bytes .entry)) i ⌝ }
 {
     let k = kept(bytes);
-    if i < k.implications {
-        let at = 38 + 16 * k.flats + 3 * i;
-        ImplicationRow {
-            a: byte(bytes, at),
-            b: byte(bytes, at + 1),
-            c: byte(bytes, at + 2),
-        }
+    if i < k.implications as usize {
+        rows::implication_from(bytes, k.implications_at() + IMPLICATION_BYTES * i)
     } else {
         ImplicationRow { a: 0, b: 0, c: 0 }
     }
@@ -87,12 +80,8 @@ pub fn step_at(bytes: &[u8], i: usize) -> StepRow
 {
     let k = kept(bytes);
     if !k.refuting {
-        if i < k.rows {
-            let at = 38 + 16 * k.flats + 3 * k.implications + 1 + 9 * i;
-            return StepRow {
-                number: byte(bytes, at),
-                assumed: atoms::load(bytes, at + 1),
-            };
+        if i < k.rows as usize {
+            return rows::step_from(bytes, k.claim_at() + STEP_BYTES * i);
         }
     }
     StepRow {
@@ -107,9 +96,8 @@ pub fn world_at(bytes: &[u8], i: usize) -> AtomSet
 {
     let k = kept(bytes);
     if k.refuting {
-        if i < k.rows {
-            let at = 38 + 16 * k.flats + 3 * k.implications + 1 + 8 * i;
-            return atoms::load(bytes, at);
+        if i < k.rows as usize {
+            return atoms::load(bytes, k.claim_at() + WORLD_BYTES * i);
         }
     }
     AtomSet::EMPTY

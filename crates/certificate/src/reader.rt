@@ -1,27 +1,42 @@
-// A reader of the contents: the lent bytes and a position. Its functions are thin over `entry_at`, which takes a plain slice.
+// The contents, entry by entry. The functions over a `Reader` are thin over a core that takes a slice and an offset.
 use super::bytes_at::byte;
+use super::places::ENTRY_BYTES;
 use atoms::little_endian::number;
 ghost use mathlib.Core.Path.{_≡_};
-ghost use Rattle.certificate.specs.Reading.{entryAt};
+ghost use Rattle.certificate.specs.Reading.{standsAt, nextAt, RowRead, TakenRead};
 
-pub struct Reader<'a> {
-    pub src: &'a [u8],
-    pub at: usize,
-}
-
-// One entry of the contents: kind, start and length; or fewer than its nine bytes.
+// One entry of the contents: kind, start and length; or fewer bytes than it has.
 pub enum Row {
     Entry(u8, u64, u64),
     End,
 }
 
-pub fn entry_at(bytes: &[u8], at: usize) -> Row
-    ensures { λ r. ⌜ r ≡ entryAt (now (bytes .entry)) at ⌝ }
+// An entry, and the position after it.
+pub struct Taken {
+    pub row: Row,
+    pub next: usize,
+}
+
+// The lent bytes and a position.
+struct Reader<'a> {
+    src: &'a [u8],
+    at: usize,
+}
+
+// Room for an entry at `at`; the sum `at + ENTRY_BYTES` could wrap.
+fn stands_at(bytes: &[u8], at: usize) -> bool
+    ensures { λ r. ⌜ r ≡ standsAt (now (bytes .entry)) at ⌝ }
 {
-    if bytes.len() < 9 {
-        return Row::End;
+    if bytes.len() < ENTRY_BYTES {
+        return false;
     }
-    if bytes.len() - 9 < at {
+    at <= bytes.len() - ENTRY_BYTES
+}
+
+fn entry_at(bytes: &[u8], at: usize) -> Row
+    ensures { λ r. ⌜ RowRead (now (bytes .entry)) at r ⌝ }
+{
+    if !stands_at(bytes, at) {
         return Row::End;
     }
     let start = number(bytes, at + 1, 4);
@@ -29,23 +44,46 @@ pub fn entry_at(bytes: &[u8], at: usize) -> Row
     Row::Entry(byte(bytes, at), start, size)
 }
 
-// At the first entry.
-pub fn open<'a>(src: &'a [u8]) -> Reader<'a>
-    ensures { λ r. ⌜ (r .src ≡ src .entry) × (r .at ≡ 1) ⌝ }
+// The position after the entry at `at`; where none stands, `at`.
+fn after_entry(bytes: &[u8], at: usize) -> usize
+    ensures { λ r. ⌜ r ≡ nextAt (now (bytes .entry)) at ⌝ }
 {
-    Reader { src, at: 1 }
+    if stands_at(bytes, at) {
+        at + ENTRY_BYTES
+    } else {
+        at
+    }
+}
+
+fn open<'a>(src: &'a [u8], at: usize) -> Reader<'a>
+    ensures { λ r. ⌜ (r .src ≡ src .entry) × (r .at ≡ at) ⌝ }
+{
+    Reader { src, at }
 }
 
 // The entry at the reader's position.
-pub fn entry<'a>(r: Reader<'a>) -> Row
-    ensures { λ s. ⌜ s ≡ entryAt (now (r .entry .src)) (r .entry .at) ⌝ }
+fn entry<'a>(r: Reader<'a>) -> Row
+    ensures { λ s. ⌜ RowRead (now (r .entry .src)) (r .entry .at) s ⌝ }
 {
     entry_at(r.src, r.at)
 }
 
-// The first entry; whoever calls this needs no walk.
-pub fn first_entry(s: &[u8]) -> Row
-    ensures { λ r. ⌜ r ≡ entryAt (now (s .entry)) 1 ⌝ }
+// The reader past that entry.
+fn moved<'a>(r: Reader<'a>) -> Reader<'a>
+    ensures { λ q. ⌜ (q .src ≡ r .entry .src) × (q .at ≡ nextAt (now (r .entry .src)) (r .entry .at)) ⌝ }
 {
-    entry(open(s))
+    Reader {
+        src: r.src,
+        at: after_entry(r.src, r.at),
+    }
+}
+
+// Opens a reader at a position and takes one entry; whoever calls this needs no walk.
+pub fn take(bytes: &[u8], at: usize) -> Taken
+    ensures { λ r. ⌜ TakenRead (now (bytes .entry)) at r ⌝ }
+{
+    let r = open(bytes, at);
+    let row = entry(r);
+    let past = moved(r);
+    Taken { row, next: past.at }
 }

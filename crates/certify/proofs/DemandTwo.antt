@@ -17,7 +17,7 @@ use Rattle.ipl.proofs.Lists.{tabulate-length}
 use Rattle.ipl.proofs.Book.{Reached, opened-reached, next-reached}
 use Rattle.prover.specs.State.{flatsOf, implicationsOf, implicationRow, book}
 use Rattle.prover.specs.InRange.{inRange}
-use Rattle.prover.specs.Calls.{number, Added, AskedAs}
+use Rattle.prover.specs.Calls.{number, NothingHeld, Added, AskedAs}
 use Rattle.prover.specs.Demand.{Made, addFlat, addImplication, question, callOf, Returned, sessionOf, Meets, Run}
 use Rattle.prover.specs.declared.Held.{Held}
 use Rattle.prover.specs.declared.Held.the-variants as held
@@ -35,7 +35,7 @@ use Rattle.certificate.proofs.Acceptance.{encode-accepted, length-bound}
 use Rattle.certificate.proofs.Reached.{reached-right}
 use Rattle.certify.specs.Held.{Certificate, bytesOf, certificateOf, certificateHeld}
 use Rattle.certify.specs.Written.{WrittenAs}
-use Rattle.certify.specs.Demand.{withProblem, keeps, lastAnswer, endOf, CertificateWritten, WrittenFrom, DemandTwoWritten}
+use Rattle.certify.specs.Demand.{withProblem, keeps, lastAnswer, endOf, CertificateWritten, WrittenFrom, WrittenAfter, DemandTwoWritten}
 use Rattle.certify.proofs.Buffer.{length-given}
 use Rattle.certify.specs.declared.Length.{Length}
 use Rattle.certify.specs.declared.Length.the-variants.{Bytes, Refused}
@@ -78,15 +78,15 @@ module _ (s : Session) (x : Option Certificate) (h : Standing s x) where
   unfolding claimOfVerdict stepsAfter orElse
   answered g u k (valid end) e a =
       after-call (B.question g) (u .session) k (withProblem (book s) g (claimOfVerdict (book s) (valid end)))
-      (ap (certificateHeld (u .session)) (a .1 .verdict) ∙ ap (λ (b : Book). some (record { problem = problemOfBook b g; claim = certificate.valid (b .steps) })) (a .1 .holds))
+      (ap (certificateHeld (u .session)) (a .0 .kept) ∙ ap (λ (b : Book). some (record { problem = problemOfBook b g; claim = certificate.valid (b .steps) })) (a .1 .holds))
       (reached-right (book s) (h .reached) g (certificate.valid (end .steps)) (ap (claimOfVerdict (book s)) e))
   answered g u k (refuted end) e a =
       after-call (B.question g) (u .session) k (withProblem (book s) g (claimOfVerdict (book s) (refuted end)))
-      (ap (certificateHeld (u .session)) (a .1 .verdict)
-      ∙ ap₂ (λ (b : Book) (W : List ℕ). some (record { problem = problemOfBook b g; claim = certificate.refuted W })) (a .1 .holds) (a .1 .shows))
+      (ap (certificateHeld (u .session)) (a .0 .kept)
+      ∙ ap₂ (λ (b : Book) (W : List ℕ). some (record { problem = problemOfBook b g; claim = certificate.refuted W })) (a .1 .holds) (a .0 .shows))
       (reached-right (book s) (h .reached) g (certificate.refuted (end .worlds)) (ap (claimOfVerdict (book s)) e))
   answered g u k (refused m) e a = subst (λ (v : Session). Standing v x) (sym (a .1)) h
-  answered g u k unfinished e a = absurd a
+  answered g u k unfinished e a = absurd (a .0)
 
   called : (c : Made) (u : Returned c) → Meets s c u → Standing (sessionOf c u) (keeps (book s) (callOf c) x)
   unfolding refusal
@@ -142,16 +142,20 @@ written-from : (s : Session) (x : Option Certificate) → Standing s x → (befo
 written-from s none h before r after w = w .answer
 written-from s (some x) h before r after w = certificate-written s x h before r after w
 
-pub demand-two-written : DemandTwoWritten
-demand-two-written n o opening cs run before r after w =
-    let first : Reached (book (o .session)) = subst Reached (sym (opening .holds)) (opened-reached n) in
-    let start : Standing (o .session) none = record {
-      in-range = nothing-in-range 0 (o .session) first (opening .nothing);
+-- From a session that holds a reached book and no verdict.
+pub written-after : {total : ℕ} (k : Book) → Reached k → (s : Session) → book s ≡ k → NothingHeld total s → WrittenAfter k s
+written-after {total} k reached s e nothing cs run before r after w =
+    let first : Reached (book s) = subst Reached (sym e) reached in
+    let start : Standing s none = record {
+      in-range = nothing-in-range total s first nothing;
       reached = first;
-      held-is = ap (certificateHeld (o .session)) (opening .nothing .no-verdict);
+      held-is = ap (certificateHeld s) (nothing .no-verdict);
       right = tt;
     } in
-    let end = endOf (o .session) cs run in
-    let x = lastAnswer (opened n) none (map callOf cs) in
-    let stands : Standing end x = subst (λ (k : Book). Standing end (lastAnswer k none (map callOf cs))) (opening .holds) (run-stands cs (o .session) none start run) in
+    let end = endOf s cs run in
+    let x = lastAnswer k none (map callOf cs) in
+    let stands : Standing end x = subst (λ (k : Book). Standing end (lastAnswer k none (map callOf cs))) e (run-stands cs s none start run) in
     written-from end x stands before r after (subst (λ (y : Option Certificate). WrittenAs y before r after) (stands .held-is) (w .written (stands .in-range)))
+
+pub demand-two-written : DemandTwoWritten
+demand-two-written n o opening = written-after (opened n) (opened-reached n) (o .session) (opening .holds) (opening .nothing)

@@ -58,8 +58,11 @@ abbrev pub WrittenFrom : Session → Option Certificate → List ℕ → Length 
 WrittenFrom s none before r after = r ≡ Refused 9
 WrittenFrom s (some x) before r after = CertificateWritten s x before r after
 
--- For every n, every opening, every list of calls and every run of them: what is written of the session at the end.
+-- Of a session s that holds the book k and no verdict: what is written of the session at the end of any run of calls on it.
+abbrev pub WrittenAfter : Book → Session → Type 0
+WrittenAfter k s = (cs : List Made) (run : Run s cs) (before : List ℕ) (r : Length) (after : List ℕ) → Written (endOf s cs run) before r after
+    → WrittenFrom (endOf s cs run) (lastAnswer k none (map callOf cs)) before r after
+
+-- For every n and every opening.
 abbrev pub DemandTwoWritten : Type 0
-DemandTwoWritten = (n : ℕ) (o : Changed) → Opened n o → (cs : List Made) (run : Run (o .session) cs)
-    → (before : List ℕ) (r : Length) (after : List ℕ) → Written (endOf (o .session) cs run) before r after
-    → WrittenFrom (endOf (o .session) cs run) (lastAnswer (opened n) none (map callOf cs)) before r after
+DemandTwoWritten = (n : ℕ) (o : Changed) → Opened n o → WrittenAfter (opened n) (o .session)

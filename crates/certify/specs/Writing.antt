@@ -1,15 +1,11 @@
--- Terms of inner contracts: the counts of a certificate.
+-- Terms of inner contracts: the counts of the certificate of a session.
 use mathlib.Core.Bool.{Bool, true, false}
+use mathlib.Core.Path.{_≡_}
 use Prim.Native.Nat.{ℕ, _≤_}
-use Rattle.ipl.specs.Range.{flatTable, implicationTable, stepTable}
+use Rattle.prover.specs.InRange.{inRange}
 use Rattle.prover.specs.declared.Session.{Session}
+use Rattle.certificate.specs.Format.{totalLength}
 use Rattle.certificate.specs.declared.Contents.{Contents}
-
--- Counts within their tables; there are more rows for steps than for worlds.
-pub record InTables (k : Contents) : Type 0 where
-  pub flats : k .flats ≤ flatTable
-  pub implications : k .implications ≤ implicationTable
-  pub rows : k .rows ≤ stepTable
 
 -- How many worlds or steps a session holds.
 abbrev pub rowsHeld : Session → Bool → ℕ
@@ -17,4 +13,11 @@ rowsHeld s true = s .worlds .count
 rowsHeld s false = s .steps .count
 
 abbrev pub contentsHeld : Session → Bool → Contents
-contentsHeld s refuting = record { flats = s .flats .count; implications = s .implications .count; refuting = refuting; rows = rowsHeld s refuting }
+contentsHeld s refuting =
+    record { flats = s .flats .count; implications = s .implications .count; refuting = refuting; rows = rowsHeld s refuting }
+
+-- The counts k are those of the session s in range, and its certificate fits so many bytes.
+pub record Fits (s : Session) (k : Contents) (bytes : ℕ) : Type 0 where
+  pub in-range : inRange s ≡ true
+  pub counts-are : k ≡ contentsHeld s (k .refuting)
+  pub room : totalLength (k .flats) (k .implications) (k .refuting) (k .rows) ≤ bytes

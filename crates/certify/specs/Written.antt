@@ -19,12 +19,12 @@ abbrev pub lengthTold : Session → Length
 lengthTold s = cond (inRange s) (Bytes (bound (s .flats .count) (s .implications .count))) (Refused 5)
 
 -- "9: no verdict held to write a sheet of; 10 (after 9): lent bytes fewer than the sheet has"; else its length.
-abbrev pub answerOf : Option Certificate → ℕ → Length
+abbrev answerOf : Option Certificate → ℕ → Length
 answerOf none size = Refused 9
 answerOf (some x) size = cond (leb (length (bytesOf x)) size) (Bytes (length (bytesOf x))) (Refused 10)
 
 -- The certificate at the start where it fits; "bytes past a written sheet keep their contents". Else "nothing written".
-abbrev pub bufferAfter : Option Certificate → List ℕ → List ℕ
+abbrev bufferAfter : Option Certificate → List ℕ → List ℕ
 bufferAfter none before = before
 bufferAfter (some x) before = putAt before 0 (bytesOf x)
 

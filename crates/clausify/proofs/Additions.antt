@@ -16,7 +16,7 @@ use Rattle.ipl.proofs.Book.{next-taken}
 use Rattle.clausify.specs.Additions.{flatsBy, implicationsBy, Unrefused}
 
 -- An addition, and no question; one whose numbers are in range over n atoms.
-abbrev pub IsAddition : Call → Type 0
+abbrev IsAddition : Call → Type 0
 IsAddition (addFlat f) = Unit {0}
 IsAddition (addImplication i) = Unit {0}
 IsAddition (question g) = ⊥
@@ -27,7 +27,7 @@ AddsInRange n (addImplication i) = T (implicationInRange n i)
 AddsInRange n (question g) = ⊥
 
 -- The book with the clauses of the calls at its end.
-abbrev pub withAdded : Book → List Call → Book
+abbrev withAdded : Book → List Call → Book
 withAdded k cs = record { n = k .n; flats = k .flats ++ flatsBy cs; implications = k .implications ++ implicationsBy cs; steps = k .steps }
 
 pub flatsBy-append : (cs ds : List Call) → flatsBy (cs ++ ds) ≡ flatsBy cs ++ flatsBy ds

@@ -12,6 +12,7 @@ use borrow.Author.Tests.{eq-eqb, ne-eqb}
 use Rattle.ipl.specs.Clause.{bot}
 use Rattle.ipl.proofs.Range.{AtomOrBot}
 use Rattle.syntax.specs.Nodes.{Entry, letter, falsum, compound, named}
+use Rattle.syntax.specs.Refusal.{mostNames}
 use Rattle.clausify.specs.Naming.{letterCount, atomsFrom, atomsOf, atomAt}
 
 pub letters-named : (T : List Entry) → letterCount T ≤ named T
@@ -70,7 +71,7 @@ atom-below T n i few = elim (decLt i (length T)) [
 pub falsum-bot : (T : List Entry) (i : ℕ) → i < length T → getD T i falsum ≡ falsum → atomAt T i ≡ bot
 falsum-bot T i h e = subst (λ (x : Entry). Between 0 (letterCount T) (letterCount T) (named T) x (atomAt T i)) e (atom-between T i h)
 
-pub bot-falsum : (T : List Entry) (i : ℕ) → named T ≤ 64 → i < length T → atomAt T i ≡ bot → getD T i falsum ≡ falsum
+pub bot-falsum : (T : List Entry) (i : ℕ) → named T ≤ mostNames → i < length T → atomAt T i ≡ bot → getD T i falsum ≡ falsum
 bot-falsum T i few h e = go (getD T i falsum) (atom-between T i h)
   where
     go : (x : Entry) → Between 0 (letterCount T) (letterCount T) (named T) x (atomAt T i) → x ≡ falsum

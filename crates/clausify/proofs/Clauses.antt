@@ -43,7 +43,7 @@ calls-forced m (addImplication i ∷ cs) = (
 calls-forced m (question g ∷ cs) = (λ h. calls-forced m cs .0 (h .1), λ h. (tt, calls-forced m cs .1 h))
 
 -- The world v forces each, or some, of the atoms of a list.
-abbrev pub Every : Model → ℕ → List ℕ → Type 0
+abbrev Every : Model → ℕ → List ℕ → Type 0
 Every m v l = All (λ x. T (forcesAtom m v x)) l
 
 abbrev pub Some : Model → ℕ → List ℕ → Type 0
@@ -90,7 +90,7 @@ module _ (m : Model) (v : ℕ) where
       )
 
 -- At every world: if all of left hold, one of right holds.
-abbrev pub Reads : Model → List ℕ → List ℕ → Type 0
+abbrev Reads : Model → List ℕ → List ℕ → Type 0
 Reads m left right = (v : ℕ) → v < m .count → Every m v left → Some m v right
 
 module _ (m : Model) (ok : IsModel m) where

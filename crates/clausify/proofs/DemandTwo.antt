@@ -5,18 +5,16 @@ use mathlib.Core.Logic.{inl, inr}
 use mathlib.Core.Path.{_≡_, sym, ap, _∙_, subst}
 use Prim.Native.Nat.{ℕ, _≤_}
 use native.Mathlib.Omega.{arith}
-use lib.Dec.{T}
-use Rattle.ipl.specs.Range.{atomOrBot}
 use Rattle.ipl.specs.Kripke.{Model, IsModel, forces, shown}
 use Rattle.ipl.specs.Claim.{Countermodel}
 use Rattle.ipl.specs.Search.{Outcome, valid, refuted, refused, unfinished}
-use Rattle.ipl.specs.Book.{Book, answer}
+use Rattle.ipl.specs.Book.{Book, goalRefusal, answer}
 use Rattle.ipl.specs.Demand as demand
 use Rattle.ipl.specs.Demand.{isValid, isRefuted}
 use Rattle.ipl.proofs.Forcing.{forces-decidable}
 use Rattle.ipl.proofs.Soundness.{atom-persists}
 use Rattle.ipl.proofs.Limits.{Ended}
-use Rattle.ipl.proofs.Book.{Reached, question-settled, question-ended}
+use Rattle.ipl.proofs.Book.{Reached, goal-taken, question-settled, question-ended}
 use Rattle.prover.specs.State.{worldsOf, book}
 use Rattle.prover.specs.Calls.{Asked, AskedAs}
 use Rattle.prover.specs.InRange.{inRange}
@@ -26,7 +24,7 @@ use Rattle.prover.specs.declared.Answered.{Answered}
 use Rattle.prover.proofs.DemandThree.{nothing-in-range, asked-as}
 use Rattle.syntax.specs.Grammar.{Tree, opened}
 use Rattle.syntax.specs.Nodes.{letter, leafAt, nodes, named}
-use Rattle.syntax.specs.Refusal.{Accepted}
+use Rattle.syntax.specs.Refusal.{mostNames, Accepted}
 use Rattle.syntax.specs.Judge as judgement
 use Rattle.syntax.specs.Judge.{Judgement, judge, Right}
 use Rattle.syntax.proofs.Judge.{judge-right}
@@ -48,7 +46,7 @@ module _ (t : Tree) where
   Counters m = Countermodel (flatsBy (calls (nodes t .table))) (implicationsBy (calls (nodes t .table))) (goalOf t) m
 
   -- A formula that some model does not force at its root has a countermodel.
-  no-countermodel : named (nodes t .table) ≤ 64 → ((m : Model) → Counters m → ⊥) → (m : Model) → IsModel m → forces m (m .root) (opened t)
+  no-countermodel : named (nodes t .table) ≤ mostNames → ((m : Model) → Counters m → ⊥) → (m : Model) → IsModel m → forces m (m .root) (opened t)
   unfolding goalOf
   no-countermodel few none m ok = elim (forces-decidable m (opened t) (m .root)) [
     | yes h ↦ h
@@ -85,7 +83,7 @@ module _ (t : Tree) where
 -- ---- a text that is accepted, and its answer
 
 module _ (s : List ℕ) (t : Tree) (accepted : Accepted s t) (r : Settled) (u : Session) (holds : Holds t u (r .goal)) where
-  few : named (nodes t .table) ≤ 64
+  few : named (nodes t .table) ≤ mostNames
   few = omega (arith, accepted .size-right)
 
   abbrev answered : Answered
@@ -97,8 +95,8 @@ module _ (s : List ℕ) (t : Tree) (accepted : Accepted s t) (r : Settled) (u : 
   in-range : inRange u ≡ true
   in-range = nothing-in-range 0 u reached (holds .nothing)
 
-  goal-ok : T (atomOrBot (u .n) (r .goal))
-  goal-ok = rw (ap (λ (k : Book). k .n) (holds .clauses ∙ text-book t few), holds .goal) (goal-in-range t few)
+  goal-ok : goalRefusal (book u) (r .goal) ≡ 0
+  goal-ok = goal-taken (book u) (r .goal) (rw (ap (λ (k : Book). k .n) (holds .clauses ∙ text-book t few), holds .goal) (goal-in-range t few))
 
   -- The clauses held are those of the text, and the goal is that of the text.
   of-text : (m : Model) → _≡_ {A = Type 0} (Countermodel (book u .flats) (book u .implications) (r .goal) m) (Counters t m)
@@ -109,13 +107,13 @@ module _ (s : List ℕ) (t : Tree) (accepted : Accepted s t) (r : Settled) (u : 
   says : (o : Outcome) → demand.Settled (book u) (r .goal) o → Ended o → AskedAs u (r .goal) o answered → Says s (r .verdict) (worldsOf (r .session .worlds))
   unfolding isValid isRefuted demand.worldsOf
   says (valid end) c e a =
-      subst (λ (v : Verdict). Says s v (worldsOf (r .session .worlds))) (sym (a .0))
+      subst (λ (v : Verdict). Says s v (worldsOf (r .session .worlds))) (sym (a .0 .verdict))
       (t, accepted .reads, no-countermodel t few (λ m k. c .valid-iff tt .0 tt m (subst (λ (X : Type 0). X) (sym (of-text m)) k)))
   says (refuted end) c e a =
-      subst (λ (v : Verdict). Says s v (worldsOf (r .session .worlds))) (sym (a .0))
-      (t, accepted .reads, rw (a .1 .shows) (worlds-refute t (end .worlds) (subst (λ (X : Type 0). X) (of-text (shown (end .worlds))) (c .shown-one tt))))
+      subst (λ (v : Verdict). Says s v (worldsOf (r .session .worlds))) (sym (a .0 .verdict))
+      (t, accepted .reads, rw (a .0 .shows) (worlds-refute t (end .worlds) (subst (λ (X : Type 0). X) (of-text (shown (end .worlds))) (c .shown-one tt))))
   says (refused number) c e a = subst (λ (v : Verdict). Says s v (worldsOf (r .session .worlds))) (sym (a .0)) (inr (t, accepted, e))
-  says unfinished c e a = absurd a
+  says unfinished c e a = absurd (a .0)
 
   answer-says : Asked u (r .goal) answered → Says s (r .verdict) (worldsOf (r .session .worlds))
   answer-says a =

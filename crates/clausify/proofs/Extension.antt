@@ -13,6 +13,7 @@ use Rattle.ipl.specs.Clause.{bot}
 use Rattle.ipl.specs.Kripke.{Model, IsModel, forcesAtom, ForcesFlat, ForcesImplication, forces}
 use Rattle.ipl.proofs.Forcing.{forcesTest, forces-tested, forces-persistent}
 use Rattle.syntax.specs.Nodes.{Entry, letter, falsum, compound, named, connected, entryFormula, formulasAfter, formulaAt, Earlier, WellOrdered}
+use Rattle.syntax.specs.Refusal.{mostNames}
 use Rattle.syntax.proofs.Stands.{row-formula}
 use Rattle.clausify.specs.Naming.{atomsOf, atomAt, calls}
 use Rattle.clausify.specs.Additions.{flatsBy, implicationsBy}
@@ -37,7 +38,7 @@ module _ (E : List Entry) (m : Model) (ok : IsModel m) where
         let p = formulaAt E (partWith x (atomsOf E)) in forces-tested m p v .1 (forces-persistent m ok p u v lu lv l (forces-tested m p u .0 t));
   }
 
-  module _ (ordered : WellOrdered E) (few : named E ≤ 64) where
+  module _ (ordered : WellOrdered E) (few : named E ≤ mostNames) where
     pub extended-atoms : (i : ℕ) → i < length E → Same (extended E m) (atomAt E i) (λ v. forces m v (formulaAt E i))
     unfolding forcesAtom
     extended-atoms i l v lv = go (eqb (atomAt E i) bot) refl

@@ -10,6 +10,7 @@ pub mod Part
 pub mod Names
 pub mod Extension
 pub mod DemandTwo
+pub mod DemandThree
 pub mod Passes
 pub mod Written
 pub mod Loops

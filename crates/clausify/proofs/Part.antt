@@ -24,7 +24,7 @@ abbrev pub Same : Model → ℕ → (ℕ → Type 0) → Type 0
 Same m x P = (v : ℕ) → v < m .count → T (forcesAtom m v x) ↔ P v
 
 -- Where the connective of P and Q is.
-abbrev pub Joined : Model → Connective → (ℕ → Type 0) → (ℕ → Type 0) → ℕ → Type 0
+abbrev Joined : Model → Connective → (ℕ → Type 0) → (ℕ → Type 0) → ℕ → Type 0
 Joined m And P Q v = P v × Q v
 Joined m Or P Q v = P v ⊎ Q v
 Joined m Implies P Q v = From m v (λ u. P u → Q u)

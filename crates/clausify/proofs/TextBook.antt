@@ -1,36 +1,37 @@
 -- The book of a text: none of its additions is refused, and its goal is in range.
-use mathlib.Core.List.{List, []}
+use mathlib.Core.List.{[]}
 use mathlib.Core.Path.{_≡_, _∙_}
 use Prim.Native.Nat.{ℕ, _≤_}
 use native.Mathlib.Omega.{arith}
 use lib.Dec.{T}
 use borrow.Author.Tests.{le-leb}
 use Rattle.atoms.specs.Sets.{limit}
+use Rattle.atoms.proofs.Machine.{limit-least}
 use Rattle.ipl.specs.Lists.{All}
 use Rattle.ipl.specs.Range.{atomOrBot}
-use Rattle.ipl.specs.Book.{Call, countInRange, opened}
-use Rattle.ipl.specs.Demand.{Claims}
+use Rattle.ipl.specs.Book.{countInRange, opened}
 use Rattle.ipl.proofs.Lists.{All-map}
 use Rattle.ipl.proofs.Range.{atom-in-range}
-use Rattle.ipl.proofs.Book.{Reached, opened-reached, after-reached, claims}
+use Rattle.ipl.proofs.Book.{Reached, opened-reached, after-reached}
 use Rattle.syntax.specs.Grammar.{Tree}
 use Rattle.syntax.specs.Nodes.{nodes, named}
+use Rattle.syntax.specs.Refusal.{mostNames}
 use Rattle.clausify.specs.Naming.{letterCount, atomsOf, calls, atomCount, textBook, goalOf}
-use Rattle.clausify.specs.Additions.{flatsBy, implicationsBy, Unrefused}
+use Rattle.clausify.specs.Additions.{tableBook, Unrefused}
 use Rattle.clausify.proofs.Additions.{AddsInRange, in-range-addition, after-additions, additions-unrefused}
 use Rattle.clausify.proofs.Atoms.{atom-below}
 use Rattle.clausify.proofs.Ranges.{calls-in-range}
 use Rattle.clausify.proofs.Sizes.{calls-size}
 
 -- An opening with a number in range.
-opened-in-range : (n : ℕ) → 1 ≤ n → n ≤ limit → opened n ≡ record { n = n; flats = []; implications = []; steps = [] }
+pub opened-in-range : (n : ℕ) → 1 ≤ n → n ≤ limit → opened n ≡ record { n = n; flats = []; implications = []; steps = [] }
 unfolding opened countInRange
 opened-in-range n h k = rw (le-leb 1 n h, le-leb n limit k)
 
-module _ (t : Tree) (few : named (nodes t .table) ≤ 64) where
+module _ (t : Tree) (few : named (nodes t .table) ≤ mostNames) where
   count-in-range : (1 ≤ atomCount (nodes t .table)) × (atomCount (nodes t .table) ≤ limit)
-  unfolding atomCount limit
-  count-in-range = (omega arith, omega arith)
+  unfolding atomCount
+  count-in-range = (omega arith, omega (arith, limit-least))
 
   atoms-enough : named (nodes t .table) ≤ atomCount (nodes t .table)
   unfolding atomCount
@@ -49,20 +50,20 @@ module _ (t : Tree) (few : named (nodes t .table) ≤ 64) where
       rw text-opened (additions-unrefused (calls (nodes t .table)) (record { n = atomCount (nodes t .table); flats = []; implications = []; steps = [] }) text-in-range
       (record { flats = omega (arith, s .0); implications = omega (arith, s .1) }))
 
-  pub text-book : textBook t ≡ record { n = atomCount (nodes t .table); flats = flatsBy (calls (nodes t .table)); implications = implicationsBy (calls (nodes t .table)); steps = [] }
+  pub text-book : textBook t ≡ tableBook (nodes t .table)
   unfolding textBook
   text-book =
-      after-additions (calls (nodes t .table)) (opened (atomCount (nodes t .table))) (All-map (calls (nodes t .table)) (in-range-addition (atomCount (nodes t .table))) text-in-range) text-unrefused
+      let n = atomCount (nodes t .table) in
+      after-additions (calls (nodes t .table)) (opened n) (All-map (calls (nodes t .table)) (in-range-addition n) text-in-range) text-unrefused
       ∙ rw text-opened
 
   pub goal-in-range : T (atomOrBot (atomCount (nodes t .table)) (goalOf t))
   unfolding goalOf
-  goal-in-range = atom-in-range (named (nodes t .table)) (atomCount (nodes t .table)) (goalOf t) atoms-enough (atom-below (nodes t .table) (named (nodes t .table)) (nodes t .root) (omega arith))
+  goal-in-range =
+      let T = nodes t .table in
+      atom-in-range (named T) (atomCount T) (goalOf t) atoms-enough (atom-below T (named T) (nodes t .root) (omega arith))
 
--- Demand 3 reaches a text's session: an opening and additions lead to its book.
+-- An opening and additions lead to the book of a text.
 pub text-reached : (t : Tree) → Reached (textBook t)
 unfolding textBook
 text-reached t = after-reached (calls (nodes t .table)) (opened (atomCount (nodes t .table))) (opened-reached (atomCount (nodes t .table)))
-
-pub text-claims : (t : Tree) (cs : List Call) → Claims (textBook t) cs
-text-claims t cs = claims cs (textBook t) (text-reached t)

@@ -4,11 +4,10 @@ use mathlib.Core.Path.{_≡_, refl, sym, ap, ap₂, _∙_, subst}
 use Prim.Native.Nat.{ℕ, _≤_, _<_, max}
 use native.Mathlib.Omega.{arith}
 use lib.ListN.{length, getD}
-use borrow.Author.Tests.{le-leb}
-use Rattle.atoms.specs.Sets.{limit}
+use Rattle.atoms.proofs.Machine.{limit-least}
 use Rattle.ipl.specs.Lists.{tabulate}
 use Rattle.ipl.specs.Clause.{bot, Flat}
-use Rattle.ipl.specs.Book.{Book, countInRange, opened}
+use Rattle.ipl.specs.Book.{Book, opened}
 use Rattle.sat.specs.Table.{clauses}
 use Rattle.prover.specs.State.{implicationsOf, stepsOf, book}
 use Rattle.prover.specs.Calls.{NothingHeld, Asked}
@@ -16,10 +15,10 @@ use Rattle.prover.specs.declared.Session.{Session}
 use Rattle.prover.specs.declared.Implications.{Implications}
 use Rattle.prover.specs.declared.Answered.{Answered}
 use Rattle.prover.specs.declared.Verdict.the-variants as verdict
-use Rattle.syntax.specs.Nodes.{Entry, nodes, named, WellOrdered}
-use Rattle.syntax.specs.Refusal.{Refused, line-1, line-2, line-3, line-4}
+use Rattle.syntax.specs.Nodes.{nodes, named, WellOrdered}
+use Rattle.syntax.specs.Refusal.{mostNames, Refused, line-1, line-2, line-3, line-4}
 use Rattle.syntax.specs.Judge.{Judgement, refused, accepted, judge, Right}
-use Rattle.syntax.specs.Parts.{held}
+use Rattle.syntax.specs.Parts.{held, room}
 use Rattle.syntax.specs.Answer.{Read, AnswersWith}
 use Rattle.syntax.specs.declared.Outcome.{Outcome}
 use Rattle.syntax.specs.declared.Outcome.the-variants.{Refusal, Formula}
@@ -28,17 +27,13 @@ use Rattle.syntax.proofs.Held.{held-length}
 use Rattle.syntax.proofs.Stands.{root-inside, table-ordered}
 use Rattle.syntax.proofs.Judge.{judge-only}
 use Rattle.clausify.specs.Naming.{atomAt, atomCount, calls, goalOf}
-use Rattle.clausify.specs.Additions.{flatsBy, implicationsBy}
+use Rattle.clausify.specs.Additions.{flatsBy, implicationsBy, tableBook}
 use Rattle.clausify.specs.Calls.{ClausifiedAs, SettledAs}
 use Rattle.clausify.specs.Writing.{NamesOf, Nameable, Put}
 use Rattle.clausify.specs.declared.naming.Names.{Names}
 use Rattle.clausify.specs.declared.Clausified.{Clausified}
 use Rattle.clausify.proofs.Passes.{read-within}
-use Rattle.clausify.proofs.TextBook.{text-book}
-
--- What a table's session holds.
-abbrev tableBook : List Entry → Book
-tableBook T = record { n = atomCount T; flats = flatsBy (calls T); implications = implicationsBy (calls T); steps = [] }
+use Rattle.clausify.proofs.TextBook.{opened-in-range, text-book}
 
 -- The opened session with the clauses of a table.
 module _ (p : Parts) (r : Names) (g : Nameable p r) (n : ℕ) (en : n ≡ max 1 (r .count)) (s : Session) (es : book s ≡ opened n) where
@@ -46,11 +41,12 @@ module _ (p : Parts) (r : Names) (g : Nameable p r) (n : ℕ) (en : n ≡ max 1 
   unfolding atomCount
   count-is = en ∙ ap (max 1) (g .names .count)
 
-  pub session-count : s .n ≡ atomCount (held p)
-  unfolding opened countInRange limit
-  session-count = ap (λ (k : Book). k .n) es ∙ rw (le-leb 1 n (omega (arith, en)), le-leb n 64 (omega (arith, en, g .names .count, g .few))) count-is
+  session-count : s .n ≡ atomCount (held p)
+  session-count =
+      ap (λ (k : Book). k .n) (es ∙ opened-in-range n (omega (arith, en)) (omega (arith, en, g .names .count, g .few, limit-least))) ∙ count-is
 
-  pub session-holds : (left right : List ℕ) (k : ℕ) (x : Implications) → clauses left right k ≡ flatsBy (calls (held p)) → implicationsOf x ≡ implicationsBy (calls (held p))
+  pub session-holds : (left right : List ℕ) (k : ℕ) (x : Implications) → clauses left right k ≡ flatsBy (calls (held p))
+      → implicationsOf x ≡ implicationsBy (calls (held p))
       → _≡_ {A = Book} (record { n = s .n; flats = clauses left right k; implications = implicationsOf x; steps = stepsOf (s .steps) }) (tableBook (held p))
   unfolding opened
   session-holds left right k x et ex = λ i. record { n = session-count i; flats = et i; implications = ex i; steps = ap (λ (k : Book). k .steps) es i }
@@ -68,29 +64,29 @@ pub refused-as : (s : List ℕ) (o : Outcome) (p : Parts) → AnswersWith s o p 
 refused-as s o p h number place e = subst (λ (o : Outcome). AnswersWith s o p) e h .0
 
 module _ (s : List ℕ) (root : ℕ) (p : Parts) (h : Read s root p) where
-  few : named (nodes (h .tree) .table) ≤ 64
+  few : named (nodes (h .tree) .table) ≤ mostNames
   few = omega (arith, h .accepted .size-right)
 
   pub read-nameable : (n : Names) → NamesOf (held p) n → Nameable p n
-  unfolding limit
   read-nameable n o = record {
     sound = h .sound;
     ordered = subst WellOrdered (sym (h .table-is)) (table-ordered (h .tree));
-    few = omega (arith, few, ap named (h .table-is));
+    few = omega (arith, few, ap named (h .table-is), limit-least);
     names = o;
   }
 
   root-in : root < length (held p)
   root-in = omega (arith, h .root-is, root-inside (h .tree), ap length (h .table-is))
 
-  pub root-row : root < 65
+  pub root-row : root < room
   root-row = omega (arith, root-in, held-length p (h .sound), h .sound .bounded)
 
-  pub read-clausified : (n : Names) → NamesOf (held p) n → length (n .atoms) ≡ 65 → (q : Session) → book q ≡ tableBook (held p) → NothingHeld 0 q
+  pub read-clausified : (n : Names) → NamesOf (held p) n → length (n .atoms) ≡ room → (q : Session) → book q ≡ tableBook (held p) → NothingHeld 0 q
       → ClausifiedAs (judge s) (record { refusal = 0; place = 0; session = q; goal = getD (n .atoms) root 0 })
   unfolding goalOf
   read-clausified n o l q e nothing =
-      subst (λ (j : Judgement). ClausifiedAs j (record { refusal = 0; place = 0; session = q; goal = getD (n .atoms) root 0 })) (sym (judge-only s (accepted (h .tree)) (h .accepted))) (
+      subst (λ (j : Judgement). ClausifiedAs j (record { refusal = 0; place = 0; session = q; goal = getD (n .atoms) root 0 }))
+      (sym (judge-only s (accepted (h .tree)) (h .accepted))) (
         refl,
         refl,
         record {
@@ -101,9 +97,9 @@ module _ (s : List ℕ) (root : ℕ) (p : Parts) (h : Read s root p) where
       )
 
 pub refused-clausified : (s : List ℕ) (number place : ℕ) → Refused s number place → (q : Session) → book q ≡ opened 1 → NothingHeld 0 q
-    → ClausifiedAs (judge s) (record { refusal = number; place = place; session = q; goal = 255 })
+    → ClausifiedAs (judge s) (record { refusal = number; place = place; session = q; goal = bot })
 refused-clausified s number place h q e nothing =
-    subst (λ (j : Judgement). ClausifiedAs j (record { refusal = number; place = place; session = q; goal = 255 })) (sym (judge-only s (refused number place) h))
+    subst (λ (j : Judgement). ClausifiedAs j (record { refusal = number; place = place; session = q; goal = bot })) (sym (judge-only s (refused number place) h))
     (refl, refl, record { clauses = e; nothing = nothing; goal = refl })
 
 -- ---- settled

@@ -3,7 +3,7 @@ use mathlib.Core.Bool.{Bool, true, false, not, cond, _||_, or-false}
 use mathlib.Core.List.{List, [], _∷_, _++_, append-assoc, append-nil}
 use mathlib.Core.Path.{_≡_, refl, sym, ap, ap₂, _∙_, subst}
 use mathlib.Core.Logic.{inl}
-use Prim.Native.Nat.{ℕ, _+_, _≤_}
+use Prim.Native.Nat.{ℕ, _+_, _≤_, _<_}
 use native.Mathlib.Omega.{arith}
 use lib.Dec.{T, eqb}
 use lib.ListN.{length, getD, length-append}
@@ -28,7 +28,7 @@ use Rattle.clausify.specs.Naming.{setOf, clause, partCalls}
 use Rattle.clausify.specs.Additions.{flatsBy, implicationsBy}
 use Rattle.clausify.proofs.Additions.{flatsBy-append, implicationsBy-append}
 use Rattle.clausify.proofs.Passes.{read-within}
-use Rattle.clausify.specs.Writing.{namesIn, entryCalls, Fits, Put, Room, PartIn, PartsIn, EntryRoom, Appended}
+use Rattle.clausify.specs.Writing.{entryCalls, Fits, Put, Room, PartIn, PartsIn, EntryRoom, Appended}
 use Rattle.syntax.specs.Nodes.{And, Or, Implies}
 use Rattle.syntax.specs.Parts.{connectiveOf, entryOf}
 use Rattle.syntax.specs.declared.Part.{Part}
@@ -50,7 +50,7 @@ put-one left right left2 right2 k l r f a b = record {
   more = omega arith;
 }
 
-pub put-then : (F G : List Flat) (left right left2 right2 left3 right3 : List ℕ) (k k2 k3 : ℕ) → Put left right k F left2 right2 k2 → Put left2 right2 k2 G left3 right3 k3
+put-then : (F G : List Flat) (left right left2 right2 left3 right3 : List ℕ) (k k2 k3 : ℕ) → Put left right k F left2 right2 k2 → Put left2 right2 k2 G left3 right3 k3
     → Put left right k (F ++ G) left3 right3 k3
 put-then F G left right left2 right2 left3 right3 k k2 k3 a b = record {
   left-size = b .left-size ∙ a .left-size;
@@ -121,7 +121,7 @@ module _ (x y z : ℕ) (whole first second both : AtomSet) (ex : num whole ≡ o
   named-left : false ≡ any (eqb bot) (x ∷ [])
   named-left = sym nx ∙ bot-one x
 
-  pub and-flats : num both ≡ union (num first) (num second) → (b : Bool) → b ≡ eqb y bot || eqb z bot
+  and-flats : num both ≡ union (num first) (num second) → (b : Bool) → b ≡ eqb y bot || eqb z bot
       → (flatOf whole first ∷ []) ++ (flatOf whole second ∷ []) ++ cond b [] (flatOf both whole ∷ []) ≡ flatsBy (partCalls And x y z)
   unfolding partCalls
   and-flats e b eb =
@@ -130,7 +130,7 @@ module _ (x y z : ℕ) (whole first second both : AtomSet) (ex : num whole ≡ o
       (put-clause (x ∷ []) (z ∷ []) whole second false named-left single-whole single-second)
       (put-clause (y ∷ z ∷ []) (x ∷ []) both whole b (eb ∙ bot-two y z) (e ∙ ap₂ union ey ez ∙ sym (set-two y z)) single-whole)
 
-  pub or-flats : num both ≡ union (num first) (num second)
+  or-flats : num both ≡ union (num first) (num second)
       → (flatOf whole both ∷ []) ++ cond (eqb y bot) [] (flatOf first whole ∷ []) ++ cond (eqb z bot) [] (flatOf second whole ∷ []) ≡ flatsBy (partCalls Or x y z)
   unfolding partCalls
   or-flats e =
@@ -139,7 +139,7 @@ module _ (x y z : ℕ) (whole first second both : AtomSet) (ex : num whole ≡ o
       (put-clause (y ∷ []) (x ∷ []) first whole (eqb y bot) (bot-one y) single-first single-whole)
       (put-clause (z ∷ []) (x ∷ []) second whole (eqb z bot) (bot-one z) single-second single-whole)
 
-  pub implies-flats : (empty : AtomSet) → num empty ≡ 0 → num both ≡ union (num whole) (num first) → (b : Bool) → b ≡ eqb y bot || eqb z bot
+  implies-flats : (empty : AtomSet) → num empty ≡ 0 → num both ≡ union (num whole) (num first) → (b : Bool) → b ≡ eqb y bot || eqb z bot
       → cond (not (eqb y bot)) [] (flatOf empty whole ∷ []) ++ cond (eqb y bot) [] (flatOf both second ∷ []) ++ cond b [] (flatOf second whole ∷ [])
       ≡ flatsBy (partCalls Implies x y z)
   unfolding partCalls
@@ -228,25 +228,25 @@ module _ (A : List ℕ) (x : ℕ) (p : Part) where
   falsum-calls e = sym (ap (λ (p : Part). entryCalls A x (entryOf p)) e)
 
   module _ (c : Connective) (y z : ℕ) (e : p ≡ Compound c y z) where
-    pub compound-parts : PartsIn A (entryOf p) → PartIn A y × PartIn A z
-    compound-parts = subst (λ (p : Part). PartsIn A (entryOf p)) e
+    pub compound-parts : PartsIn A x (entryOf p) → (x < limit) × PartIn A y × PartIn A z
+    compound-parts = subst (λ (p : Part). PartsIn A x (entryOf p)) e
 
-    pub compound-calls : PartsIn A (entryOf p) → partCalls (connectiveOf c) x (getD A y 0) (getD A z 0) ≡ entryCalls A x (entryOf p)
+    pub compound-calls : PartsIn A x (entryOf p) → partCalls (connectiveOf c) x (getD A y 0) (getD A z 0) ≡ entryCalls A x (entryOf p)
     compound-calls h =
         let q = compound-parts h in
-        ap₂ (partCalls (connectiveOf c) x) (read-within A y 0 bot (q .0 .0)) (read-within A z 0 bot (q .1 .0)) ∙ sym (ap (λ (p : Part). entryCalls A x (entryOf p)) e)
+        ap₂ (partCalls (connectiveOf c) x) (read-within A y 0 bot (q .1 .0)) (read-within A z 0 bot (q .2 .0))
+        ∙ sym (ap (λ (p : Part). entryCalls A x (entryOf p)) e)
 
     pub compound-room : (left right : List ℕ) (k : ℕ) → EntryRoom left right k x A (entryOf p) → Room left right k x (getD A y 0) (getD A z 0)
-    unfolding namesIn
     compound-room left right k h =
         let q = compound-parts (h .parts) in
         record {
           left-rows = h .left-rows;
           right-rows = h .right-rows;
           few = h .few;
-          name-atom = omega (arith, h .name-atom, ap (λ (p : Part). namesIn (entryOf p)) e);
-          left-atom = subst (λ (a : ℕ). T (atomOrBot limit a)) (read-within A y bot 0 (q .0 .0)) (q .0 .1);
-          right-atom = subst (λ (a : ℕ). T (atomOrBot limit a)) (read-within A z bot 0 (q .1 .0)) (q .1 .1);
+          name-atom = q .0;
+          left-atom = subst (λ (a : ℕ). T (atomOrBot limit a)) (read-within A y bot 0 (q .1 .0)) (q .1 .1);
+          right-atom = subst (λ (a : ℕ). T (atomOrBot limit a)) (read-within A z bot 0 (q .2 .0)) (q .2 .1);
         }
 
 pub put-calls : (a b : List Call) (left right left2 right2 : List ℕ) (k k2 : ℕ) → a ≡ b → Put left right k (flatsBy a) left2 right2 k2 → Put left right k (flatsBy b) left2 right2 k2
@@ -264,7 +264,12 @@ no-implication L R = by-cond (λ (cs : List Call). implicationsBy cs ≡ []) (an
 no-implications : (l r l2 r2 l3 r3 : List ℕ) → implicationsBy (clause l r ++ clause l2 r2 ++ clause l3 r3) ≡ []
 no-implications l r l2 r2 l3 r3 =
     implicationsBy-append (clause l r ++ clause l2 r2) (clause l3 r3)
-    ∙ ap₂ (λ (a b : List Implication). a ++ b) (implicationsBy-append (clause l r) (clause l2 r2) ∙ ap₂ (λ (a b : List Implication). a ++ b) (no-implication l r) (no-implication l2 r2)) (no-implication l3 r3)
+    ∙ ap₂ (λ (a b : List Implication). a ++ b) two (no-implication l3 r3)
+  where
+    two : implicationsBy (clause l r ++ clause l2 r2) ≡ []
+    two =
+        implicationsBy-append (clause l r) (clause l2 r2)
+        ∙ ap₂ (λ (a b : List Implication). a ++ b) (no-implication l r) (no-implication l2 r2)
 
 pub appended-none : (t : Implications) → Appended t (implicationsBy []) t
 unfolding implicationsBy

@@ -3,6 +3,8 @@ use mathlib.Core.List.{List, [], _∷_, _++_}
 use mathlib.Core.Path.{_≡_}
 use Rattle.ipl.specs.Clause.{Flat, Implication, closings}
 use Rattle.ipl.specs.Book.{Book, Call, addFlat, addImplication, question, refusal, next}
+use Rattle.syntax.specs.Nodes.{Entry}
+use Rattle.clausify.specs.Naming.{atomCount, calls}
 
 -- The flat clauses, closing ones included.
 unfoldable pub flatsBy : List Call → List Flat
@@ -16,6 +18,10 @@ implicationsBy [] = []
 implicationsBy (addFlat f ∷ cs) = implicationsBy cs
 implicationsBy (addImplication i ∷ cs) = i ∷ implicationsBy cs
 implicationsBy (question g ∷ cs) = implicationsBy cs
+
+-- What the clauses of a table's parts bring to an opening with its n.
+abbrev pub tableBook : List Entry → Book
+tableBook T = record { n = atomCount T; flats = flatsBy (calls T); implications = implicationsBy (calls T); steps = [] }
 
 -- None of the calls is refused, one after the other.
 abbrev pub Unrefused : Book → List Call → Type 0

@@ -1,18 +1,24 @@
--- Demand 2 for texts: what a verdict on a text says of its formula.
+-- Demands 2 and 3 for texts: what a verdict on a text says of its formula, and that every run of calls on its session follows its book.
 use mathlib.Core.List.{List}
 use mathlib.Core.Logic.{_⊎_}
 use mathlib.Core.Path.{_≡_}
 use Prim.Native.Nat.{ℕ}
+use Rattle.ipl.specs.Book as B
+use Rattle.ipl.specs.Book.{Book, answer, next}
 use Rattle.ipl.specs.Kripke.{Model, IsModel, forcesAtom, forces, shown}
 use Rattle.prover.specs.State.{worldsOf}
+use Rattle.prover.specs.Calls.{VerdictIs}
+use Rattle.prover.specs.Demand.{Made, Run, Follows}
+use Rattle.prover.specs.declared.Session.{Session}
 use Rattle.prover.specs.declared.Verdict.{Verdict}
 use Rattle.prover.specs.declared.Verdict.the-variants.{Valid, Refuted, Refused}
 use Rattle.syntax.specs.Grammar.{Tree, opened, Reads}
 use Rattle.syntax.specs.Nodes.{Entry, letter, leafAt, nodes}
 use Rattle.syntax.specs.Refusal as text
-use Rattle.syntax.specs.Judge.{judge}
-use Rattle.clausify.specs.Naming.{atomAt}
-use Rattle.clausify.specs.Calls.{SettledAs}
+use Rattle.syntax.specs.Judge.{Judgement, refused, accepted, judge}
+use Rattle.clausify.specs.Naming.{atomAt, textBook, goalOf}
+use Rattle.clausify.specs.Calls.{ClausifiedAs, SettledAs}
+use Rattle.clausify.specs.declared.Clausified.{Clausified}
 use Rattle.clausify.specs.declared.Settled.{Settled}
 
 -- A model of atoms "read on the letters": each letter of the table is forced where its atom is.
@@ -34,3 +40,25 @@ Says s (Refused number place) W = text.Refused s number place ⊎ ((t : Tree) ×
 -- For every text, and every answer as the contract states it.
 abbrev pub DemandTwo : Type 0
 DemandTwo = (s : List ℕ) (r : Settled) → SettledAs (judge s) r → Says s (r .verdict) (worldsOf (r .session .worlds))
+
+-- "A text's session holds what an opening with its n and the additions of its clauses .. would bring": the book of a text; a refused
+-- one has that of the empty session of one atom.
+abbrev pub bookOf : Judgement → Book
+bookOf (refused number place) = B.opened 1
+bookOf (accepted t) = textBook t
+
+-- Every run of calls on the session follows the book.
+abbrev pub EveryRunFollows : Book → Session → Type 0
+EveryRunFollows k s = (cs : List Made) (run : Run s cs) → Follows k s cs run
+
+-- The verdict is the answer of the text's book to its goal, and the session follows the book that the question leaves.
+abbrev pub SettledFollows : Judgement → Settled → Type 0
+SettledFollows (refused number place) r = EveryRunFollows (B.opened 1) (r .session)
+SettledFollows (accepted t) r =
+    VerdictIs (goalOf t) (answer (textBook t) (goalOf t)) (record { verdict = r .verdict; session = r .session })
+    × EveryRunFollows (next (textBook t) (B.question (goalOf t))) (r .session)
+
+-- "So demand 3 reaches it": for every text, refused or not, the session of its clauses, and the one that its verdict came with.
+pub record DemandThree (s : List ℕ) : Type 0 where
+  pub clausified : (r : Clausified) → ClausifiedAs (judge s) r → EveryRunFollows (bookOf (judge s)) (r .session)
+  pub settled : (r : Settled) → SettledAs (judge s) r → SettledFollows (judge s) r

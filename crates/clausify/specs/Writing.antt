@@ -15,11 +15,11 @@ use Rattle.prover.specs.declared.Implications.{Implications}
 use Rattle.syntax.specs.Nodes.{Entry, letter, falsum, compound, WellOrdered, named}
 use Rattle.syntax.specs.Parts.{held, Sound}
 use Rattle.syntax.specs.declared.Parts.{Parts}
-use Rattle.clausify.specs.Naming.{letterCount, atomsFrom, atomAt, partCalls}
+use Rattle.clausify.specs.Naming.{atomsFrom, atomAt, partCalls}
 use Rattle.clausify.specs.declared.naming.Names.{Names}
 use Rattle.clausify.specs.declared.naming.Next.{Next}
 
--- How many letters and names one entry brings, and its calls with the name x, where A has the atoms of all parts.
+-- How many letters and names one entry brings, and its calls where its atom is x and A has the atoms of all parts.
 unfoldable pub lettersIn : Entry → ℕ
 lettersIn (letter l) = 1
 lettersIn falsum = 0
@@ -41,13 +41,12 @@ pub record Passed (n : Next) (e : Entry) (r : Next) : Type 0 where
   pub letter-more : r .letter ≡ n .letter + lettersIn e
   pub name-more : r .name ≡ n .name + namesIn e
 
--- The atoms of a table's parts, and the counts.
+-- The atoms of a table's parts, and how many there are.
 pub record NamesOf (T : List Entry) (r : Names) : Type 0 where
   pub atoms : (i : ℕ) → i < length T → getD (r .atoms) i bot ≡ atomAt T i
-  pub letters : r .letters ≡ letterCount T
   pub count : r .count ≡ named T
 
--- The reader's table, with at most 64 atoms, and its names.
+-- The reader's table, with no more atoms than there is room for, and its names.
 pub record Nameable (p : Parts) (r : Names) : Type 0 where
   pub sound : Sound p
   pub ordered : WellOrdered (held p)
@@ -67,31 +66,35 @@ pub record Put (left right : List ℕ) (count : ℕ) (F : List Flat) (left2 righ
   pub rows : clauses left2 right2 count2 ≡ clauses left right count ++ F
   pub more : count2 ≡ count + length F
 
+-- A name has at most three flat clauses.
+abbrev pub clausesOfName : ℕ
+clausesOfName = 3
+
 -- Room for the clauses of a name x with parts y and z.
 pub record Room (left right : List ℕ) (count x y z : ℕ) : Type 0 where
-  pub left-rows : count + 3 ≤ rowCount left
-  pub right-rows : count + 3 ≤ rowCount right
-  pub few : count + 3 ≤ flatTable
+  pub left-rows : count + clausesOfName ≤ rowCount left
+  pub right-rows : count + clausesOfName ≤ rowCount right
+  pub few : count + clausesOfName ≤ flatTable
   pub name-atom : x < limit
   pub left-atom : T (atomOrBot limit y)
   pub right-atom : T (atomOrBot limit z)
 
--- The two parts of a compound have atoms, or are ⊥.
+-- A part of a compound has an atom, or is ⊥.
 abbrev pub PartIn : List ℕ → ℕ → Type 0
 PartIn A a = (a < length A) × T (atomOrBot limit (getD A a bot))
 
-abbrev pub PartsIn : List ℕ → Entry → Type 0
-PartsIn A (letter l) = Unit {0}
-PartsIn A falsum = Unit {0}
-PartsIn A (compound c a b) = PartIn A a × PartIn A b
+-- The atom x of a compound is no ⊥ either.
+abbrev pub PartsIn : List ℕ → ℕ → Entry → Type 0
+PartsIn A x (letter l) = Unit {0}
+PartsIn A x falsum = Unit {0}
+PartsIn A x (compound c a b) = (x < limit) × PartIn A a × PartIn A b
 
--- Room for the clauses of an entry whose name, if it gets one, is x.
+-- Room for the clauses of an entry whose atom is x.
 pub record EntryRoom (left right : List ℕ) (count x : ℕ) (A : List ℕ) (e : Entry) : Type 0 where
-  pub left-rows : count + 3 ≤ rowCount left
-  pub right-rows : count + 3 ≤ rowCount right
-  pub few : count + 3 ≤ flatTable
-  pub name-atom : x + namesIn e ≤ limit
-  pub parts : PartsIn A e
+  pub left-rows : count + clausesOfName ≤ rowCount left
+  pub right-rows : count + clausesOfName ≤ rowCount right
+  pub few : count + clausesOfName ≤ flatTable
+  pub parts : PartsIn A x e
 
 -- The implications X after those of t.
 pub record Appended (t : Implications) (X : List Implication) (r : Implications) : Type 0 where

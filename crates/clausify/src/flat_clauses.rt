@@ -1,6 +1,7 @@
 // The flat clauses of a formula's names, written into two columns of sets.
 use super::naming;
 use atoms::AtomSet;
+use ipl::BOTTOM;
 use naming::Names;
 use syntax::Connective;
 use syntax::Part;
@@ -9,6 +10,7 @@ ghost use mathlib.Core.Path.{_≡_};
 ghost use mathlib.Core.Bool.{cond};
 ghost use mathlib.Core.List.{[], _∷_};
 ghost use Rattle.atoms.specs.Words.{rowCount};
+ghost use Rattle.ipl.specs.Range.{flatTable};
 ghost use Rattle.prover.specs.Calls.{flatOf};
 ghost use Rattle.syntax.specs.Nodes.{And, Or, Implies};
 ghost use Rattle.syntax.specs.Parts.{connectiveOf, entryOf, held};
@@ -16,19 +18,20 @@ ghost use Rattle.clausify.specs.Naming.{partCalls, calls};
 ghost use Rattle.clausify.specs.Additions.{flatsBy};
 ghost use Rattle.clausify.specs.Writing.{Fits, Put, Room, entryCalls, EntryRoom, Nameable};
 
-// One clause more, and the count with it; a clause with ⊥ on its left is not held. Its callers have seen that there is room.
+// One clause more, and the count with it, unless it is skipped: a clause with ⊥ on its left is not held. Its callers have seen that
+// there is room.
 fn put(
     left: &mut [u64],
     right: &mut [u64],
     count: usize,
-    bottom: bool,
+    skipped: bool,
     l: AtomSet,
     r: AtomSet,
 ) -> usize
     requires { ⌜ Fits (now left) (now right) count ⌝ }
-    ensures { λ k. ⌜ Put (now (left .entry)) (now (right .entry)) count (cond bottom [] (flatOf l r ∷ [])) (now (left .exit)) (now (right .exit)) k ⌝ }
+    ensures { λ k. ⌜ Put (now (left .entry)) (now (right .entry)) count (cond skipped [] (flatOf l r ∷ [])) (now (left .exit)) (now (right .exit)) k ⌝ }
 {
-    if bottom {
+    if skipped {
         return count;
     }
     atoms::set_row(left, count, l);
@@ -50,7 +53,7 @@ fn put_and(left: &mut [u64], right: &mut [u64], count: usize, x: u8, y: u8, z: u
         left,
         right,
         two,
-        (y == 255) | (z == 255),
+        (y == BOTTOM) | (z == BOTTOM),
         first.join(second),
         whole,
     )
@@ -65,8 +68,8 @@ fn put_or(left: &mut [u64], right: &mut [u64], count: usize, x: u8, y: u8, z: u8
     let first = AtomSet::single(y);
     let second = AtomSet::single(z);
     let one = put(left, right, count, false, whole, first.join(second));
-    let two = put(left, right, one, y == 255, first, whole);
-    put(left, right, two, z == 255, second, whole)
+    let two = put(left, right, one, y == BOTTOM, first, whole);
+    put(left, right, two, z == BOTTOM, second, whole)
 }
 
 // y > z: {x,y}→{z} and the closing clause {z}→{x}; if y is ⊥, only {}→{x}.
@@ -77,9 +80,16 @@ fn put_implies(left: &mut [u64], right: &mut [u64], count: usize, x: u8, y: u8, 
     let whole = AtomSet::single(x);
     let first = AtomSet::single(y);
     let second = AtomSet::single(z);
-    let one = put(left, right, count, y != 255, AtomSet::EMPTY, whole);
-    let two = put(left, right, one, y == 255, whole.join(first), second);
-    put(left, right, two, (y == 255) | (z == 255), second, whole)
+    let one = put(left, right, count, y != BOTTOM, AtomSet::EMPTY, whole);
+    let two = put(left, right, one, y == BOTTOM, whole.join(first), second);
+    put(
+        left,
+        right,
+        two,
+        (y == BOTTOM) | (z == BOTTOM),
+        second,
+        whole,
+    )
 }
 
 fn put_part(
@@ -101,7 +111,7 @@ fn put_part(
     }
 }
 
-// The clauses of one part: none of a letter or ⊥.
+// The clauses of one part, whose atom is x: none of a letter or ⊥.
 fn put_entry(
     left: &mut [u64],
     right: &mut [u64],
@@ -130,17 +140,16 @@ fn put_entry(
 
 // The clauses of every name, in order; their count.
 pub fn write(left: &mut [u64], right: &mut [u64], parts: Parts, names: Names) -> usize
-    requires { ⌜ Nameable parts names × (rowCount (now left) ≡ 512) × (rowCount (now right) ≡ 512) ⌝ }
+    requires { ⌜ Nameable parts names × (rowCount (now left) ≡ flatTable) × (rowCount (now right) ≡ flatTable) ⌝ }
     ensures { λ k. ⌜ Put (now (left .entry)) (now (right .entry)) 0 (flatsBy (calls (held parts))) (now (left .exit)) (now (right .exit)) k ⌝ }
 {
     let mut k = 0;
-    let mut x = names.letters;
     let mut i: u8 = 0;
     while i < parts.count {
-        let node = parts.nodes[i as usize];
+        let at = i as usize;
+        let node = parts.nodes[at];
         let part = node.part;
-        k = put_entry(left, right, k, part, x, names);
-        x += naming::names_in(part);
+        k = put_entry(left, right, k, part, names.atoms[at], names);
         i += 1;
     }
     k

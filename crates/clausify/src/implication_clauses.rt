@@ -23,7 +23,7 @@ fn with_part(t: Implications, c: Connective, x: u8, y: u8, z: u8) -> Implication
         Connective::And => t,
         Connective::Or => t,
         Connective::Implies => {
-            if y == 255 {
+            if y == ipl::BOTTOM {
                 return t;
             }
             let mut next = t;
@@ -38,7 +38,7 @@ fn with_part(t: Implications, c: Connective, x: u8, y: u8, z: u8) -> Implication
 }
 
 fn with_entry(t: Implications, part: Part, x: u8, names: Names) -> Implications
-    requires { ⌜ (t .count < implicationTable) × PartsIn (names .atoms) (entryOf part) ⌝ }
+    requires { ⌜ (t .count < implicationTable) × PartsIn (names .atoms) x (entryOf part) ⌝ }
     ensures { λ r. ⌜ Appended t (implicationsBy (entryCalls (names .atoms) x (entryOf part))) r ⌝ }
 {
     match part {
@@ -61,17 +61,16 @@ pub fn implications_of(parts: Parts, names: Names) -> Implications
 {
     let mut t = Implications {
         count: 0,
-        a: [0; 128],
-        b: [0; 128],
-        c: [0; 128],
+        a: [0; ipl::IMPLICATIONS],
+        b: [0; ipl::IMPLICATIONS],
+        c: [0; ipl::IMPLICATIONS],
     };
-    let mut x = names.letters;
     let mut i: u8 = 0;
     while i < parts.count {
-        let node = parts.nodes[i as usize];
+        let at = i as usize;
+        let node = parts.nodes[at];
         let part = node.part;
-        t = with_entry(t, part, x, names);
-        x += naming::names_in(part);
+        t = with_entry(t, part, names.atoms[at], names);
         i += 1;
     }
     t

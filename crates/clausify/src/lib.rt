@@ -6,14 +6,12 @@ use prover::Verdict;
 use syntax::Outcome;
 use syntax::Parts;
 ghost use mathlib.Core.Path.{_≡_};
-ghost use mathlib.Core.List.{[]};
 ghost use Prim.Native.Nat.{max};
 ghost use Rattle.prover.specs.State.{book};
 ghost use Rattle.prover.specs.Calls.{NothingHeld};
 ghost use Rattle.syntax.specs.Judge.{judge};
 ghost use Rattle.syntax.specs.Parts.{held};
-ghost use Rattle.clausify.specs.Additions.{flatsBy, implicationsBy};
-ghost use Rattle.clausify.specs.Naming.{calls, atomCount};
+ghost use Rattle.clausify.specs.Additions.{tableBook};
 ghost use Rattle.clausify.specs.Calls.{ClausifiedAs, SettledAs};
 ghost use Rattle.clausify.specs.Writing.{Nameable};
 
@@ -21,7 +19,7 @@ mod flat_clauses;
 mod implication_clauses;
 mod naming;
 
-// A text's session and goal; or the number of a refusal and its place, with the empty session of one atom and the goal 255.
+// A text's session and goal; or the number of a refusal and its place, with the empty session of one atom and the goal ⊥.
 pub struct Clausified {
     pub refusal: u8,
     pub place: usize,
@@ -46,12 +44,12 @@ fn atom_count(names: u8) -> u8
 // The session of a formula's clauses.
 fn session_of(parts: Parts, names: Names) -> Session
     requires { ⌜ Nameable parts names ⌝ }
-    ensures { λ r. ⌜ (book r ≡ record { n = atomCount (held parts); flats = flatsBy (calls (held parts)); implications = implicationsBy (calls (held parts)); steps = [] }) × NothingHeld 0 r ⌝ }
+    ensures { λ r. ⌜ (book r ≡ tableBook (held parts)) × NothingHeld 0 r ⌝ }
 {
     let fresh = prover::open(atom_count(names.count));
     let s = fresh.session;
-    let mut left = [0; 512 * atoms::WORDS];
-    let mut right = [0; 512 * atoms::WORDS];
+    let mut left = [0; ipl::FLATS * atoms::WORDS];
+    let mut right = [0; ipl::FLATS * atoms::WORDS];
     let count = flat_clauses::write(&mut left, &mut right, parts, names);
     let flats = Flats { count, left, right };
     let steps = s.steps;
@@ -83,7 +81,7 @@ pub fn clausify(text: &[u8]) -> Clausified
                 refusal,
                 place,
                 session,
-                goal: 255,
+                goal: ipl::BOTTOM,
             }
         }
         Outcome::Formula(root) => {

@@ -3,14 +3,14 @@ use syntax::Part;
 use syntax::Parts;
 ghost use mathlib.Core.Path.{_≡_};
 ghost use Prim.Native.Nat.{_<_};
+ghost use Rattle.ipl.specs.Clause.{bot};
 ghost use Rattle.syntax.specs.Parts.{entryOf, held, Sound};
 ghost use Rattle.clausify.specs.Naming.{letterCount};
-ghost use Rattle.clausify.specs.Writing.{lettersIn, namesIn, Passed, NamesOf};
+ghost use Rattle.clausify.specs.Writing.{lettersIn, Passed, NamesOf};
 
-// The atom of each part, how many letters there are, and how many atoms.
+// The atom of each part, and how many atoms there are.
 pub struct Names {
-    pub atoms: [u8; 65],
-    pub letters: u8,
+    pub atoms: [u8; syntax::PARTS],
     pub count: u8,
 }
 
@@ -31,16 +31,6 @@ fn letters_in(part: Part) -> u8
     }
 }
 
-pub fn names_in(part: Part) -> u8
-    ensures { λ r. ⌜ r ≡ namesIn (entryOf part) ⌝ }
-{
-    match part {
-        Part::Letter(_) => 0,
-        Part::Falsum => 0,
-        Part::Compound(_, _, _) => 1,
-    }
-}
-
 // Every table of the reader is sound.
 fn letter_count(parts: Parts) -> u8
     requires { ⌜ Sound parts ⌝ }
@@ -58,7 +48,7 @@ fn letter_count(parts: Parts) -> u8
 }
 
 fn pass(next: Next, part: Part) -> Next
-    requires { ⌜ (next .letter < 255) × (next .name < 255) ⌝ }
+    requires { ⌜ (next .letter < bot) × (next .name < bot) ⌝ }
     ensures { λ r. ⌜ Passed next (entryOf part) r ⌝ }
 {
     match part {
@@ -68,7 +58,7 @@ fn pass(next: Next, part: Part) -> Next
             name: next.name,
         },
         Part::Falsum => Next {
-            atom: 255,
+            atom: ipl::BOTTOM,
             letter: next.letter,
             name: next.name,
         },
@@ -85,7 +75,7 @@ pub fn names_of(parts: Parts) -> Names
     ensures { λ r. ⌜ NamesOf (held parts) r ⌝ }
 {
     let letters = letter_count(parts);
-    let mut atoms = [255; 65];
+    let mut atoms = [ipl::BOTTOM; syntax::PARTS];
     let mut next = Next {
         atom: 0,
         letter: 0,
@@ -102,7 +92,6 @@ pub fn names_of(parts: Parts) -> Names
     }
     Names {
         atoms,
-        letters,
         count: next.name,
     }
 }

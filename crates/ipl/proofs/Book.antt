@@ -10,7 +10,7 @@ use lib.Dec.{T, eqb, leb, leb→le, eqb-refl}
 use lib.ListN.{length, length-append}
 use borrow.Author.Tests.{leb-false, eqb-true, eq-eqb, ne-eqb}
 use Rattle.atoms.specs.Sets.{limit}
-use Rattle.atoms.proofs.Machine.{limit-small, one-in-limit}
+use Rattle.atoms.proofs.Machine.{limit-small, limit-least}
 use Rattle.atoms.proofs.Truth.{T-left, T-right, T-and, T-or, T-inl, T-inr, T-true, true-T, false-T, by-cond}
 use Rattle.ipl.specs.Lists.{any, All}
 use Rattle.ipl.specs.Clause.{bot, one, Flat, Implication, closing, closings, sameFlat, closed}
@@ -18,7 +18,8 @@ use Rattle.ipl.specs.Range.{flatTable, implicationTable, stepTable, atom
 use Rattle.ipl.specs.Search.{Step, State, Outcome, valid, refuted, refused, unfinished, NeedsNoMore, start, search}
 use Rattle.ipl.specs.Kripke.{Model, shown}
 use Rattle.ipl.specs.Claim.{Countermodel, StepsRight}
-use Rattle.ipl.specs.Book.{Book, Call, addFlat, addImplication, question, countInRange, opened, flatsFull, flatRefusal, implicationRefusal, answer, refusal, stepsAfter, taken, next, after}
+use Rattle.ipl.specs.Book.{Book, Call, addFlat, addImplication, question, countInRange, opened, flatsFull}
+use Rattle.ipl.specs.Book.{flatRefusal, implicationRefusal, goalRefusal, answer, refusal, stepsAfter, taken, next, after}
 use Rattle.ipl.specs.Demand.{isValid, isRefuted, isVerdict, worldsOf, Settled, WellFormed, Answered, Claims}
 use Rattle.ipl.proofs.Lists.{All-map, All-append, any-left, any-last}
 use Rattle.ipl.proofs.Range.{AtomOrBot, ImplicationBelow, atom-or-bot, flat-below, implication-below, one-in-range}
@@ -41,7 +42,7 @@ opened-reached n = record { well-formed = fresh (cond (countInRange n) n 1) (cou
   where
     count : (b : Bool) → countInRange n ≡ b → (1 ≤ cond b n 1) × (cond b n 1 ≤ limit)
     count true e = unfold countInRange in (leb→le 1 n (T-left (leb 1 n) (leb n limit) (true-T e)), leb→le n limit (T-right (leb 1 n) (leb n limit) (true-T e)))
-    count false e = (omega arith, one-in-limit)
+    count false e = (omega arith, omega (arith, limit-least))
 
     fresh : (n : ℕ) → (1 ≤ n) × (n ≤ limit) → WellFormed (record { n = n; flats = []; implications = []; steps = [] })
     fresh n h = record {
@@ -87,6 +88,23 @@ implication-unrefused k i =
     go true ea false eb false ec true ed r = absurd (omega arith)
     go true ea false eb true ec d ed r = absurd (omega arith)
     go false ea b eb c ec d ed r = absurd (omega arith)
+
+pub goal-unrefused : (k : Book) (g : ℕ) → goalRefusal k g ≡ 0 → T (atomOrBot (k .n) g)
+unfolding goalRefusal
+goal-unrefused k g = go (atomOrBot (k .n) g)
+  where
+    go : (a : Bool) → _≡_ {A = ℕ} (cond a 0 6) 0 → T a
+    go true e = tt
+    go false e = absurd (omega arith)
+
+pub goal-taken : (k : Book) (g : ℕ) → T (atomOrBot (k .n) g) → goalRefusal k g ≡ 0
+unfolding goalRefusal
+goal-taken k g t = rw (T-true (atomOrBot (k .n) g) t)
+
+-- The answer to such a goal is that of the search.
+pub answer-searched : (k : Book) (g : ℕ) → goalRefusal k g ≡ 0 → answer k g ≡ search (k .n) (k .flats) (k .implications) g (k .steps)
+unfolding answer
+answer-searched k g e = rw (eq-eqb (goalRefusal k g) 0 e)
 
 -- ---- closing clauses
 
@@ -208,15 +226,16 @@ module _ (k : Book) (g : ℕ) (r : Reached k) where
   unfolding taken answer
   question-reached =
       by-cond (λ o. Reached (record { n = k .n; flats = k .flats; implications = k .implications; steps = stepsAfter (k .steps) o }))
-      (atomOrBot (k .n) g) outcome (refused 6)
+      (eqb (goalRefusal k g) 0) outcome (refused (goalRefusal k g))
       (λ _. steps-reached outcome outcome-right (search-fits (k .n) (k .flats) (k .implications) g (k .steps) (r .well-formed .step-count)))
-      (λ _. steps-reached (refused 6) tt tt)
+      (λ _. steps-reached (refused (goalRefusal k g)) tt tt)
 
   -- ---- the answer to a question
   pub answer-right : OutcomeRight (k .n) (k .flats) (k .implications) g (k .steps) (answer k g) × Fits (answer k g)
   unfolding answer
   answer-right =
-      by-cond (λ o. OutcomeRight (k .n) (k .flats) (k .implications) g (k .steps) o × Fits o) (atomOrBot (k .n) g) outcome (refused 6)
+      by-cond (λ o. OutcomeRight (k .n) (k .flats) (k .implications) g (k .steps) o × Fits o)
+      (eqb (goalRefusal k g) 0) outcome (refused (goalRefusal k g))
       (λ _. (outcome-right, search-fits (k .n) (k .flats) (k .implications) g (k .steps) (r .well-formed .step-count))) (λ _. (tt, tt))
 
   -- ---- and to one whose goal is in range
@@ -258,16 +277,13 @@ module _ (k : Book) (g : ℕ) (r : Reached k) where
     settled unfinished h v =
         record { valid-iff = λ t. absurd t; refuted-iff = λ t. absurd t; shown-one = λ t. absurd t; verdict-iff = v; eight = eight }
 
-  pub question-settled : T (atomOrBot (k .n) g) → Settled k g (answer k g)
-  unfolding answer
-  question-settled t =
-      by-cond (Settled k g) (atomOrBot (k .n) g) outcome (refused 6)
-      (λ _. settled (atom-or-bot (k .n) g t) outcome outcome-right (verdict-iff-needs-no-more (k .n) (k .flats) (k .implications) g (k .steps) (r .well-formed .step-count)))
-      (λ e. absurd (false-T e t))
+  pub question-settled : goalRefusal k g ≡ 0 → Settled k g (answer k g)
+  question-settled e =
+      rw (answer-searched k g e)
+      (settled (atom-or-bot (k .n) g (goal-unrefused k g e)) outcome outcome-right (verdict-iff-needs-no-more (k .n) (k .flats) (k .implications) g (k .steps) (r .well-formed .step-count)))
 
-  pub question-ended : T (atomOrBot (k .n) g) → Ended (answer k g)
-  unfolding answer
-  question-ended t = rw (T-true (atomOrBot (k .n) g) t) (search-ends (k .n) (k .flats) (k .implications) g (k .steps))
+  pub question-ended : goalRefusal k g ≡ 0 → Ended (answer k g)
+  question-ended e = rw (answer-searched k g e) (search-ends (k .n) (k .flats) (k .implications) g (k .steps))
 
 -- ---- every call, and every list of calls
 

@@ -17,7 +17,8 @@ use Rattle.ipl.specs.Lists.{All}
 use Rattle.ipl.specs.Clause.{Flat, Implication}
 use Rattle.ipl.specs.Range.{worldTable, stepTable}
 use Rattle.ipl.specs.Question.{ask}
-use Rattle.ipl.specs.Search.{Step, known, Pair, firstUnrealized, State, Outcome, valid, refuted, refused, unfinished, Turn, done, more, begin, stepAt, resolve, look, goOn, start, turnWith, turn, Reaches, here, next, NeedsNoMore, run, search}
+use Rattle.ipl.specs.Search.{Step, known, Pair, firstUnrealized, State, Outcome, valid, refuted, refused, unfinished, Turn, done, more}
+use Rattle.ipl.specs.Search.{begin, stepAt, resolve, look, goOn, start, mostTurns, turnWith, turn, Reaches, here, next, NeedsNoMore, run, search}
 use Rattle.ipl.specs.Claim.{StepsRight}
 use Rattle.ipl.specs.Demand.{isValid, isRefuted, isVerdict}
 use Rattle.ipl.proofs.Lists.{All-map, pigeonhole}
@@ -89,7 +90,8 @@ module _ (n : ℕ) (F : List Flat) (X : List Implication) (g : ℕ) where
   begin-fits S q h none = (h, refl)
   begin-fits S q h (some m) = tt
 
-  look-fits : (R : List Flat) (S : List Step) (W : List ℕ) (q : ℕ) → Within (record { steps = S; worlds = W; questions = q }) → (o : Option Pair) → TurnFits (look n R (record { steps = S; worlds = W; questions = q }) o)
+  look-fits : (R : List Flat) (S : List Step) (W : List ℕ) (q : ℕ) → Within (record { steps = S; worlds = W; questions = q }) → (o : Option Pair)
+      → TurnFits (look n R (record { steps = S; worlds = W; questions = q }) o)
   unfolding look
   look-fits R S W q h none = h
   look-fits R S W q h (some p) = go (ask n R (insert (p .world) (p .implication .a)) (p .implication .b))
@@ -128,7 +130,7 @@ module _ (n : ℕ) (F : List Flat) (X : List Implication) (g : ℕ) where
 
   pub search-ends : (H : List Step) → Ended (search n F X g H)
   unfolding search left
-  search-ends H = run-ends (513 * 258) (start H) (omega arith)
+  search-ends H = run-ends mostTurns (start H) (omega arith)
 
   -- ---- its steps and worlds fit their tables
   run-fits : (turns : ℕ) (s : State) → Within s → Fits (run n F X g turns s)
@@ -142,7 +144,7 @@ module _ (n : ℕ) (F : List Flat) (X : List Implication) (g : ℕ) where
 
   pub search-fits : (H : List Step) → length H ≤ stepTable → Fits (search n F X g H)
   unfolding search
-  search-fits H h = run-fits (513 * 258) (start H) (zero-le, h)
+  search-fits H h = run-fits mostTurns (start H) (zero-le, h)
 
   -- ---- a verdict: every state reached is within the limits
   verdict-next : (turns : ℕ) (t : State) → T (isVerdict (goOn (run n F X g turns) (more t))) → Within t × T (isVerdict (run n F X g turns t))
@@ -194,8 +196,8 @@ module _ (n : ℕ) (F : List Flat) (X : List Implication) (g : ℕ) where
   pub verdict-iff-needs-no-more : (H : List Step) → length H ≤ stepTable → T (isVerdict (search n F X g H)) ↔ NeedsNoMore n F X g (start H)
   unfolding search
   verdict-iff-needs-no-more H h = (
-    λ v u r. verdict-within (513 * 258) (start H) u v (zero-le, h) r,
-    λ no-more. go (run n F X g (513 * 258) (start H)) (run-exceeds (513 * 258) (start H)) (search-ends H) no-more,
+    λ v u r. verdict-within mostTurns (start H) u v (zero-le, h) r,
+    λ no-more. go (run n F X g mostTurns (start H)) (run-exceeds mostTurns (start H)) (search-ends H) no-more,
   )
     where
       go : (o : Outcome) → Exceeds (start H) o → Ended o → NeedsNoMore n F X g (start H) → T (isVerdict o)

@@ -2,15 +2,17 @@
 use mathlib.Core.Bool.{false, _&&_}
 use mathlib.Core.Logic.{_⊎_, inl, inr}
 use mathlib.Core.Path.{_≡_, sym, subst, _∙_}
-use Prim.Native.Nat.{ℕ, _^_, _≤_, _<_}
+use Prim.Native.Nat.{ℕ, _^_, _≤_, _<_, min}
+use native.Mathlib.Decide.{decLt}
 use native.Mathlib.Omega.{arith}
 use lib.Dec.{T, eqb, ltb, eqb→eq, eqb-refl, ltb→lt, lt→ltb}
 use lib.Pow.{pow-pos, pow-lt}
-use Rattle.atoms.specs.Sets.{has, limit, single}
-use Rattle.atoms.specs.Words.{singleOrEmpty}
-use Rattle.atoms.proofs.Machine.{limit-small, single-bits, single-none}
-use Rattle.atoms.proofs.Truth.{T-left, T-right, T-and, T-or, T-inl, T-inr, true-T, false-T, by-cond}
-use Rattle.atoms.proofs.Members.{has-empty, has-single}
+use Rattle.atoms.specs.Sets.{bitAt, has, limit, single, within}
+use Rattle.atoms.specs.Words.{singleOrEmpty, below}
+use Rattle.atoms.proofs.Bits.{bit-le, bit-past, lt-of-bits}
+use Rattle.atoms.proofs.Machine.{limit-small, single-bits, single-none, below-in, below-out}
+use Rattle.atoms.proofs.Truth.{T-left, T-right, T-and, T-or, T-inl, T-inr, T-iff, true-T, false-T, by-cond}
+use Rattle.atoms.proofs.Members.{has-empty, has-single, within-bits, bits-within}
 use Rattle.ipl.specs.Clause.{bot, one, Flat, Implication}
 use Rattle.ipl.specs.Range.{atomOrBot, setInRange, flatInRange, implicationInRange}
 use borrow.Author.Tests.{eqb-false, eq-eqb, ne-eqb}
@@ -94,3 +96,25 @@ implication-in-range n m h i r =
     T-and (ltb (i .a) m && atomOrBot m (i .b)) (atomOrBot m (i .c))
     (T-and (ltb (i .a) m) (atomOrBot m (i .b)) (lt→ltb (i .a) m (omega (arith, r .a))) (atom-in-range n m (i .b) h (r .b)))
     (atom-in-range n m (i .c) h (r .c))
+
+-- ---- as the code tests it
+
+-- A set of atoms below n.
+pub within-below : (s n : ℕ) → s < 2 ^ limit → within s (below n) ≡ setInRange n s
+unfolding setInRange
+within-below s n l = T-iff (within s (below n)) (ltb s (2 ^ n)) (λ t. lt→ltb s (2 ^ n) (small t)) (λ t. bits-within s (below n) (inside (ltb→lt s (2 ^ n) t)))
+  where
+    small : T (within s (below n)) → s < 2 ^ n
+    small t = lt-of-bits n s (λ i k. elim (decLt i limit) [
+      | yes h ↦ omega (arith, within-bits s (below n) t i, below-out n i (omega arith))
+      | no h ↦ bit-past limit s i l (omega arith)
+    ])
+
+    inside : s < 2 ^ n → (i : ℕ) → bitAt s i ≤ bitAt (below n) i
+    inside h i = elim (decLt i (min n limit)) [
+      | yes k ↦ omega (arith, bit-le s i, below-in n i k)
+      | no k ↦ elim (decLt i n) [
+        | yes j ↦ omega (arith, bit-past limit s i l (omega arith))
+        | no j ↦ omega (arith, bit-past n s i h (omega arith))
+      ]
+    ]

@@ -16,7 +16,8 @@ use Rattle.ipl.specs.Lists.{All, Distinct}
 use Rattle.ipl.specs.Clause.{Flat, Implication, satisfies, realizes, beyond}
 use Rattle.ipl.specs.Range.{worldTable, stepTable}
 use Rattle.ipl.specs.Question.{ask, Counters}
-use Rattle.ipl.specs.Search.{Step, implicationAt, clauseOf, known, Pair, firstUnrealized, isNone, State, Outcome, valid, refuted, refused, unfinished, Turn, done, more, begin, stepAt, resolve, look, goOn, start, turnWith, turn, Reaches, here, next, run, search}
+use Rattle.ipl.specs.Search.{Step, implicationAt, clauseOf, known, Pair, firstUnrealized, isNone, State, Outcome, valid, refuted, refused, unfinished, Turn, done, more}
+use Rattle.ipl.specs.Search.{begin, stepAt, resolve, look, goOn, start, mostTurns, turnWith, turn, Reaches, here, next, run, search}
 use Rattle.ipl.specs.Claim.{StepRight, StepsRight, Derivation, WorldsRight}
 use Rattle.ipl.proofs.Lists.{All-at, All-of, All-map, All-zip, All-append, All-left, All-right, at-any, distinct-snoc}
 use Rattle.ipl.proofs.Range.{ImplicationBelow}
@@ -244,4 +245,4 @@ module _ (n : ℕ) (F : List Flat) (X : List Implication) (g : ℕ) (H : List St
 
     pub search-right : StepsRight n F X [] H → Witnessed n X H → OutcomeRight (search n F X g H)
     unfolding search
-    search-right h v = run-right (513 * 258) (start H) (start-standing h v)
+    search-right h v = run-right mostTurns (start H) (start-standing h v)

@@ -46,9 +46,13 @@ implicationRefusal k i =
     cond (not (implicationInRange (k .n) i)) 6
     (cond (not (eqb (i .b) bot) && flatsFull k) 7 (cond (leb implicationTable (length (k .implications))) 8 0))
 
--- "A question runs the fixed search", or meets 6; 11 and 12 are the search's own.
+-- 6: a goal out of range.
+unfoldable pub goalRefusal : Book → ℕ → ℕ
+goalRefusal k g = cond (atomOrBot (k .n) g) 0 6
+
+-- "A question runs the fixed search" where it meets none of the caller's refusals; 11 and 12 are the search's own.
 unfoldable pub answer : Book → ℕ → Outcome
-answer k g = cond (atomOrBot (k .n) g) (search (k .n) (k .flats) (k .implications) g (k .steps)) (refused 6)
+answer k g = cond (eqb (goalRefusal k g) 0) (search (k .n) (k .flats) (k .implications) g (k .steps)) (refused (goalRefusal k g))
 
 unfoldable pub numberOf : Outcome → ℕ
 numberOf (valid s) = 0

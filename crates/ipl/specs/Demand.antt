@@ -9,11 +9,11 @@ use lib.ListN.{length}
 use Rattle.atoms.specs.Sets.{limit}
 use Rattle.ipl.specs.Lists.{All}
 use Rattle.ipl.specs.Clause.{closed}
-use Rattle.ipl.specs.Range.{flatTable, implicationTable, stepTable, atomOrBot, flatInRange, implicationInRange}
+use Rattle.ipl.specs.Range.{flatTable, implicationTable, stepTable, flatInRange, implicationInRange}
 use Rattle.ipl.specs.Search.{Outcome, valid, refuted, refused, unfinished, NeedsNoMore, start}
 use Rattle.ipl.specs.Kripke.{Model, shown}
 use Rattle.ipl.specs.Claim.{Countermodel, StepsRight}
-use Rattle.ipl.specs.Book.{Book, Call, addFlat, addImplication, question, answer, refusal, next}
+use Rattle.ipl.specs.Book.{Book, Call, addFlat, addImplication, question, goalRefusal, answer, refusal, next}
 
 unfoldable pub isValid : Outcome → Bool
 isValid (valid s) = true
@@ -61,11 +61,11 @@ pub record WellFormed (k : Book) : Type 0 where
   pub closings : All (λ i. T (closed (k .flats) i)) (k .implications)
   pub steps : StepsRight (k .n) (k .flats) (k .implications) [] (k .steps)
 
--- Of a question whose goal is in range, that its answer is settled.
+-- Of a question "that meets none of the caller's refusals", that its answer is settled.
 abbrev pub Answered : Book → Call → Type 0
 Answered k (addFlat f) = Unit {0}
 Answered k (addImplication i) = Unit {0}
-Answered k (question g) = T (atomOrBot (k .n) g) → Settled k g (answer k g)
+Answered k (question g) = goalRefusal k g ≡ 0 → Settled k g (answer k g)
 
 -- Of a call to the book k, refused or not.
 pub record Claim (k : Book) (c : Call) : Type 0 where

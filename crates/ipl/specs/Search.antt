@@ -110,6 +110,10 @@ goOn rest (more s) =
 abbrev pub start : List Step → State
 start S = record { steps = S; worlds = []; questions = 0 }
 
+-- At most 513 times at point 1, each with at most 257 turns more: no more turns are needed.
+abbrev pub mostTurns : ℕ
+mostTurns = 513 * 258
+
 -- Over n atoms, the flat clauses F, the implications X and the goal g.
 module _ (n : ℕ) (F : List Flat) (X : List Implication) (g : ℕ) where
   unfoldable pub turnWith : State → List ℕ → Turn
@@ -133,6 +137,6 @@ module _ (n : ℕ) (F : List Flat) (X : List Implication) (g : ℕ) where
   run zero s = unfinished
   run (suc turns) s = goOn (run turns) (turn s)
 
-  -- The whole search. At most 513 times at point 1, each with at most 257 turns more: no more turns are needed.
+  -- The whole search.
   unfoldable pub search : List Step → Outcome
-  search S = run (513 * 258) (start S)
+  search S = run mostTurns (start S)

@@ -2,20 +2,20 @@
 use mathlib.Core.Bool.{Bool, true, false, cond}
 use mathlib.Core.List.{List, []}
 use mathlib.Core.Path.{_≡_, refl, sym, ap, _∙_, subst}
-use Prim.Native.Nat.{ℕ, _+_, _*_, _<_}
+use Prim.Native.Nat.{ℕ, _+_, _<_}
 use native.Mathlib.Numerals.{add-one}
-use native.Mathlib.Omega.{arith}
+use borrow.Author.Tests.{ne-eqb}
 use Rattle.atoms.specs.Words.{rowOf}
 use Rattle.ipl.specs.Lists.{tabulate}
 use Rattle.ipl.specs.Clause.{Flat}
-use Rattle.ipl.specs.Range.{atomOrBot}
-use Rattle.ipl.specs.Search.{Outcome, refused, search}
-use Rattle.ipl.specs.Book.{answer}
+use Rattle.ipl.specs.Search.{Outcome, refused, mostTurns, search}
+use Rattle.ipl.specs.Book.{Book, goalRefusal, answer}
 use Rattle.ipl.proofs.Lists.{tabulate-length}
-use Rattle.prover.specs.State.{flatsOf, implicationsOf, stepsOf}
+use Rattle.ipl.proofs.Book.{answer-searched}
+use Rattle.prover.specs.State.{flatsOf, implicationsOf, stepsOf, book}
 use Rattle.prover.specs.InRange.{inRange}
-use Rattle.prover.specs.Calls.{goalNumber, outcome, Answer, AskedAs, Asked}
-use Rattle.prover.specs.Settling.{whole}
+use Rattle.prover.specs.Calls.{goalNumber, outcome, Searched, AskedAs, Asked}
+use Rattle.prover.specs.Settling.{whole, Concluded}
 use Rattle.prover.specs.Search.{Tables, stepIn, stepsIn, stateOf, Ended}
 use Rattle.prover.specs.declared.Session.{Session}
 use Rattle.prover.specs.declared.Answered.{Answered}
@@ -27,31 +27,34 @@ use Rattle.prover.specs.declared.question.End.the-variants as end
 use Rattle.prover.proofs.Refusals.{number-zero}
 
 -- ---- the search's end
-pub few-valid : (o : Outcome) (t : Tables) (e : End) → Ended o t e → (p : Progress) → e ≡ end.Valid p → p .questions < 513 * 258
+pub few-valid : (o : Outcome) (t : Tables) (e : End) → Ended o t e → (p : Progress) → e ≡ end.Valid p → p .questions < mostTurns
 few-valid o t e h p r = subst (Ended o t) r h .1
 
-pub few-refuted : (o : Outcome) (t : Tables) (e : End) → Ended o t e → (p : Progress) → e ≡ end.Refuted p → p .questions < 513 * 258
+pub few-refuted : (o : Outcome) (t : Tables) (e : End) → Ended o t e → (p : Progress) → e ≡ end.Refuted p → p .questions < mostTurns
 few-refuted o t e h p r = subst (Ended o t) r h .1
 
 module _ (s : Session) (g : ℕ) (o : Outcome) (t : Tables) (e : End) (h : Ended o t e) where
-  pub valid-asked : (p : Progress) → e ≡ end.Valid p → (r : Session)
-      → Answer s (record { steps = stepsIn t p; worlds = tabulate (rowOf (t .sets)) 0; questions = p .questions + 1 }) (held.Valid g) r
-      → AskedAs s g o (record { verdict = verdict.Valid (p .steps); session = r })
-  unfolding tabulate
-  valid-asked p r next a =
-      subst (λ (o : Outcome). AskedAs s g o (record { verdict = verdict.Valid (p .steps); session = next })) (sym (subst (Ended o t) r h .0)) (
-        ap verdict.Valid (sym (tabulate-length (stepIn (t .numbers) (t .assumed)) (p .steps))),
-        subst (λ (q : ℕ). Answer s (record { steps = stepsIn t p; worlds = []; questions = q }) (held.Valid g) next) (add-one (p .questions)) a,
-      )
+  -- An answer to what the search came to is one to o.
+  as-ended : (end : Outcome) → o ≡ end → (r : Answered) → AskedAs s g end r → AskedAs s g o r
+  as-ended end same r a = subst (λ (o : Outcome). AskedAs s g o r) (sym same) a
 
-  pub refuted-asked : (p : Progress) → e ≡ end.Refuted p → (r : Session) → Answer s (stateOf t p) (held.Refuted g) r
-      → AskedAs s g o (record { verdict = verdict.Refuted (p .worlds); session = r })
-  refuted-asked p r next a =
-      subst (λ (o : Outcome). AskedAs s g o (record { verdict = verdict.Refuted (p .worlds); session = next })) (sym (subst (Ended o t) r h .0))
-      (ap verdict.Refuted (sym (tabulate-length (rowOf (t .sets)) (p .worlds))), a)
+  pub valid-asked : (p : Progress) → e ≡ end.Valid p → (r : Answered)
+      → Concluded s (record { steps = stepsIn t p; worlds = tabulate (rowOf (t .sets)) 0; questions = p .questions + 1 }) (verdict.Valid (p .steps)) (held.Valid g) r
+      → AskedAs s g o r
+  unfolding tabulate
+  valid-asked p same r a = as-ended _ (subst (Ended o t) same h .0) r (
+    record { verdict = a .0 .verdict ∙ ap verdict.Valid (sym (tabulate-length (stepIn (t .numbers) (t .assumed)) (p .steps))); kept = a .0 .kept; shows = a .0 .shows },
+    subst (λ (q : ℕ). Searched s (record { steps = stepsIn t p; worlds = []; questions = q }) (r .session)) (add-one (p .questions)) (a .1),
+  )
+
+  pub refuted-asked : (p : Progress) → e ≡ end.Refuted p → (r : Answered) → Concluded s (stateOf t p) (verdict.Refuted (p .worlds)) (held.Refuted g) r → AskedAs s g o r
+  refuted-asked p same r a = as-ended _ (subst (Ended o t) same h .0) r (
+    record { verdict = a .0 .verdict ∙ ap verdict.Refuted (sym (tabulate-length (rowOf (t .sets)) (p .worlds))); kept = a .0 .kept; shows = a .0 .shows },
+    a .1,
+  )
 
   pub full-asked : (k : ℕ) → e ≡ end.Full k → AskedAs s g o (record { verdict = verdict.Refused k 0; session = s })
-  full-asked k r = subst (λ (o : Outcome). AskedAs s g o (record { verdict = verdict.Refused k 0; session = s })) (sym (subst (Ended o t) r h)) (refl, refl)
+  full-asked k same = as-ended (refused k) (subst (Ended o t) same h) (record { verdict = verdict.Refused k 0; session = s }) (refl, refl)
 
 -- The search in the prepared tables is the whole one.
 pub ended-whole : (s : Session) (g : ℕ) (F : List Flat) (numbers assumed : List ℕ) (t : Tables) (e : End) → F ≡ flatsOf (s .flats) → numbers ≡ s .steps .numbers → assumed ≡ s .steps .assumed
@@ -62,25 +65,20 @@ ended-whole s g F numbers assumed t e same n a h =
     (subst (λ (A : List ℕ). Ended (search (s .n) F (implicationsOf (s .implications)) g (tabulate (stepIn numbers A) (s .steps .count))) t e) a h))
 
 -- ---- the refusals before the search
-pub goal-zero : (s : Session) (g : ℕ) → goalNumber s g ≡ 0 → (inRange s ≡ true) × (atomOrBot (s .n) g ≡ true)
-goal-zero s g e = let z = number-zero s (cond (atomOrBot (s .n) g) 0 6) e in (z .0, go (atomOrBot (s .n) g) (z .1))
-  where
-    go : (b : Bool) → _≡_ {A = ℕ} (cond b 0 6) 0 → b ≡ true
-    go true e = refl
-    go false e = absurd (omega arith)
-
 pub asked-whole : (s : Session) (g : ℕ) → goalNumber s g ≡ 0 → (r : Answered) → AskedAs s g (whole s g) r → Asked s g r
+asked-whole s g e r a = let z = number-zero s (goalRefusal (book s) g) e in rw (z .0, answer-searched (book s) g (z .1)) a
+
+-- A goal that is refused gets its number for an answer.
+pub answer-refused : (k : Book) (g : ℕ) → (goalRefusal k g ≡ 0 → ⊥) → answer k g ≡ refused (goalRefusal k g)
 unfolding answer
-asked-whole s g e r a = rw (goal-zero s g e .0, goal-zero s g e .1) a
+answer-refused k g d = rw (ne-eqb (goalRefusal k g) 0 d)
 
 refused-outcome : (s : Session) (g : ℕ) → (goalNumber s g ≡ 0 → ⊥) → outcome s g ≡ refused (goalNumber s g)
-unfolding answer
-refused-outcome s g = go (inRange s) (atomOrBot (s .n) g)
+refused-outcome s g = by-range (inRange s)
   where
-    go : (a b : Bool) → (_≡_ {A = ℕ} (cond a (cond b 0 6) 5) 0 → ⊥) → _≡_ {A = Outcome} (cond a (cond b (whole s g) (refused 6)) (refused 5)) (refused (cond a (cond b 0 6) 5))
-    go true true d = absurd (d refl)
-    go true false d = refl
-    go false b d = refl
+    by-range : (b : Bool) → (cond b (goalRefusal (book s) g) 5 ≡ 0 → ⊥) → cond b (answer (book s) g) (refused 5) ≡ refused (cond b (goalRefusal (book s) g) 5)
+    by-range true d = answer-refused (book s) g d
+    by-range false d = refl
 
 pub asked-refused : (s : Session) (g k : ℕ) → k ≡ goalNumber s g → (k ≡ 0 → ⊥) → Asked s g (record { verdict = verdict.Refused k 0; session = s })
 asked-refused s g k e d =

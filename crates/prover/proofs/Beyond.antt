@@ -113,7 +113,9 @@ module _ (i : Implication) (M U : ℕ) where
 
       b-missing : T (not (has U (i .b)))
       b-missing = not-T (has U (i .b)) (λ t. elim (decLt (i .b) limit) [
-        | yes l ↦ none-short (i .b) (has-short (i .b) (inr (subst T (sym (has-and (singleOrEmpty (i .b)) U (i .b))) (T-and (has (singleOrEmpty (i .b)) (i .b)) (has U (i .b)) (single-has (i .b) l) t))))
+        | yes l ↦
+            let both = T-and (has (singleOrEmpty (i .b)) (i .b)) (has U (i .b)) (single-has (i .b) l) t in
+            none-short (i .b) (has-short (i .b) (inr (subst T (sym (has-and (singleOrEmpty (i .b)) U (i .b))) both)))
         | no l ↦ false-T (has-past limit U (i .b) bounded (omega arith)) t
       ])
 

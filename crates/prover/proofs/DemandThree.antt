@@ -1,11 +1,11 @@
 -- Demand 3: the theorem. A reached book and a session in range are kept by every call.
-use mathlib.Core.Bool.{Bool, true, false, cond}
+use mathlib.Core.Bool.{Bool, true, cond}
 use mathlib.Core.List.{List, [], _∷_}
 use mathlib.Core.Path.{_≡_, refl, sym, ap, _∙_, subst}
 use Prim.Native.Nat.{ℕ, _^_, _≤_, _<_}
 use native.Mathlib.Decide.{decLe}
 use native.Mathlib.Omega.{arith}
-use lib.Dec.{T, eqb, leb, ltb, le→leb, lt→ltb}
+use lib.Dec.{T, eqb, leb, le→leb, lt→ltb}
 use lib.ListN.{length}
 use borrow.Author.Tests.{eq-eqb, ne-eqb}
 use Rattle.atoms.specs.Sets.{limit}
@@ -13,26 +13,27 @@ use Rattle.atoms.specs.Words.{rowOf}
 use Rattle.atoms.proofs.Truth.{T-and, by-cond}
 use Rattle.ipl.specs.Lists.{all, All}
 use Rattle.ipl.specs.Range.{flatTable, implicationTable, stepTable, worldTable, atomOrBot, setInRange, flatInRange, implicationInRange}
-use Rattle.ipl.specs.Search.{Step, State, Outcome, valid, refuted, refused, unfinished, stepInRange}
+use Rattle.ipl.specs.Search.{State, Outcome, valid, refuted, refused, unfinished, stepInRange}
 use Rattle.ipl.specs.Book as B
-use Rattle.ipl.specs.Book.{Book, Call, countInRange, answer, refusal, numberOf, stepsAfter, taken, next}
+use Rattle.ipl.specs.Book.{Book, Call, opened, countInRange, goalRefusal, answer, refusal, numberOf, stepsAfter, taken, next}
 use Rattle.ipl.specs.Demand.{WellFormed}
 use Rattle.ipl.proofs.Lists.{All-all, All-map, tabulate-length}
 use Rattle.ipl.proofs.Steps.{right-steps-in-range}
 use Rattle.ipl.proofs.Limits.{Fits}
 use Rattle.ipl.proofs.Search.{OutcomeRight}
-use Rattle.ipl.proofs.Book.{Reached, opened-reached, next-reached, answer-right, claims}
+use Rattle.ipl.proofs.Book.{Reached, opened-reached, next-reached, goal-unrefused, answer-right, claims}
 use Rattle.prover.specs.State.{implicationRow, stepRow, flatsOf, implicationsOf, stepsOf, worldsOf, book}
 use Rattle.prover.specs.InRange.{flatsInRange, implicationsInRange, stepsInRange, worldsInRange, heldInRange, inRange}
-use Rattle.prover.specs.Calls.{number, outcome, NothingHeld, Added, Answer, AskedAs}
-use Rattle.prover.specs.Demand.{Made, addFlat, addImplication, question, callOf, Returned, sessionOf, Meets, Run, VerdictIs, AnswerIs, Follows, DemandThree}
+use Rattle.prover.specs.Calls.{number, outcome, NothingHeld, Added, Given, withSteps, Searched, AskedAs}
+use Rattle.prover.specs.Demand.{Made, addFlat, addImplication, question, callOf, Returned, sessionOf, Meets, Run, AnswerIs, Follows, DemandThree}
 use Rattle.prover.specs.declared.Session.{Session}
 use Rattle.prover.specs.declared.Changed.{Changed}
 use Rattle.prover.specs.declared.Answered.{Answered}
 use Rattle.prover.specs.declared.Held.{Held}
-use Rattle.prover.specs.declared.Held.the-variants as held
+use Rattle.prover.specs.declared.Verdict.{Verdict}
 use Rattle.prover.proofs.Sessions.{of-parts}
 use Rattle.prover.proofs.Refusals.{clauses-length}
+use Rattle.prover.proofs.Answers.{answer-refused}
 
 -- ---- a session whose book is reached is in range, with its worlds and its verdict
 module _ (s : Session) (h : WellFormed (book s)) where
@@ -90,10 +91,10 @@ module _ (s : Session) (in-range : inRange s ≡ true) (r : Reached (book s)) wh
     met : number s (refusal (book s) c) ≡ refusal (book s) c
     met = rw in-range
 
-    pub added-answer : x .refusal ≡ refusal (book s) c
+    added-answer : x .refusal ≡ refusal (book s) c
     added-answer = a .refused ∙ met
 
-    pub added-kept : Kept s c (x .session)
+    added-kept : Kept s c (x .session)
     unfolding next
     added-kept = elim (decLe (refusal (book s) c) 0) [
       | yes l ↦
@@ -109,50 +110,47 @@ module _ (s : Session) (in-range : inRange s ≡ true) (r : Reached (book s)) wh
   -- ---- questions
   module _ (g : ℕ) (x : Answered) where
     -- The book after an answer o.
-    next-is : (o : Outcome) → answer (book s) g ≡ o
-        → next (book s) (B.question g) ≡ cond (eqb (numberOf o) 0) (record { n = s .n; flats = flatsOf (s .flats); implications = implicationsOf (s .implications); steps = stepsAfter (stepsOf (s .steps)) o }) (book s)
+    next-is : (o : Outcome) → answer (book s) g ≡ o → next (book s) (B.question g) ≡ cond (eqb (numberOf o) 0) (withSteps s (stepsAfter (stepsOf (s .steps)) o)) (book s)
     unfolding next taken refusal
-    next-is o e = ap (λ (o : Outcome). cond (eqb (numberOf o) 0) (record { n = s .n; flats = flatsOf (s .flats); implications = implicationsOf (s .implications); steps = stepsAfter (stepsOf (s .steps)) o }) (book s)) e
+    next-is o e = ap (λ (o : Outcome). cond (eqb (numberOf o) 0) (withSteps s (stepsAfter (stepsOf (s .steps)) o)) (book s)) e
 
-    answer-kept : (o : Outcome) (end : State) (v : Held) → answer (book s) g ≡ o → numberOf o ≡ 0 → stepsAfter (stepsOf (s .steps)) o ≡ end .steps → Answer s end v (x .session)
-        → length (end .worlds) ≤ worldTable → All (λ M. M < 2 ^ s .n) (end .worlds) → T (heldInRange (s .n) v) → Kept s (B.question g) (x .session)
-    answer-kept o end v e z st a few below held-ok =
-        let b : book (x .session) ≡ next (book s) (B.question g) = a .holds ∙ sym (next-is o e ∙ rw (eq-eqb (numberOf o) 0 z, st)) in
-        let n-same : x .session .n ≡ s .n = ap (λ (k : Book). k .n) (a .holds) in (
-          b,
-          well-formed-in-range (x .session) (subst Reached (sym b) (next-reached (book s) (B.question g) r) .well-formed) (end .worlds) (a .shows) few
-              (subst (λ (n : ℕ). All (λ M. M < 2 ^ n) (end .worlds)) (sym n-same) below)
-              (subst (λ (v : Held). T (heldInRange (x .session .n) v)) (sym (a .verdict)) (subst (λ (n : ℕ). T (heldInRange n v)) (sym n-same) held-ok)),
-        )
+    -- A question that comes to a verdict, and what its answer says.
+    module _ {o : Outcome} {end : State} {v : Verdict} {h : Held} (e : answer (book s) g ≡ o) (no-refusal : numberOf o ≡ 0) (a : Given v h end x) (l : Searched s end (x .session)) where
+      same-book : stepsAfter (stepsOf (s .steps)) o ≡ end .steps → book (x .session) ≡ next (book s) (B.question g)
+      same-book same = l .holds ∙ sym (next-is o e ∙ rw (eq-eqb (numberOf o) 0 no-refusal, same))
+
+      same-n : x .session .n ≡ s .n
+      same-n = ap (λ (k : Book). k .n) (l .holds)
+
+      answer-kept : stepsAfter (stepsOf (s .steps)) o ≡ end .steps → length (end .worlds) ≤ worldTable → All (λ M. M < 2 ^ s .n) (end .worlds)
+          → T (heldInRange (s .n) h) → Kept s (B.question g) (x .session)
+      answer-kept same few below goal = (
+        same-book same,
+        well-formed-in-range (x .session) (subst Reached (sym (same-book same)) (next-reached (book s) (B.question g) r) .well-formed) (end .worlds) (a .shows) few
+            (subst (λ (n : ℕ). All (λ M. M < 2 ^ n) (end .worlds)) (sym same-n) below)
+            (subst (λ (v : Held). T (heldInRange (x .session .n) v)) (sym (a .kept)) (subst (λ (n : ℕ). T (heldInRange n h)) (sym same-n) goal)),
+      )
 
     -- A goal that gets a verdict is in range.
     verdict-goal : (o : Outcome) → answer (book s) g ≡ o → numberOf o ≡ 0 → T (atomOrBot (s .n) g)
-    unfolding answer numberOf
-    verdict-goal o e z = go (atomOrBot (s .n) g) refl
-      where
-        go : (b : Bool) → atomOrBot (s .n) g ≡ b → T b
-        go true eb = tt
-        go false eb =
-            let six : o ≡ refused 6 = sym e ∙ rw eb in
-            let number : numberOf o ≡ 6 = ap numberOf six in absurd (omega (arith, number, z))
+    unfolding numberOf
+    verdict-goal o e z = goal-unrefused (book s) g (elim (decLe (goalRefusal (book s) g) 0) [
+      | yes l ↦ omega arith
+      | no l ↦ omega (arith, ap numberOf (sym e ∙ answer-refused (book s) g (λ z. omega arith)))
+    ])
 
-    verdict-is : (o : Outcome) → AskedAs s g o x → VerdictIs g o x
-    verdict-is (valid end) a = (a .0, a .1 .verdict)
-    verdict-is (refuted end) a = (a .0, a .1 .verdict, a .1 .shows)
-    verdict-is (refused number) a = a .0
-    verdict-is unfinished a = a
-
-    kept : (o : Outcome) → answer (book s) g ≡ o → OutcomeRight (s .n) (flatsOf (s .flats)) (implicationsOf (s .implications)) g (stepsOf (s .steps)) o × Fits o → AskedAs s g o x → Kept s (B.question g) (x .session)
+    kept : (o : Outcome) → answer (book s) g ≡ o
+        → OutcomeRight (s .n) (flatsOf (s .flats)) (implicationsOf (s .implications)) g (stepsOf (s .steps)) o × Fits o → AskedAs s g o x → Kept s (B.question g) (x .session)
     unfolding numberOf stepsAfter heldInRange
     kept (valid end) e h a =
-        answer-kept (valid end) end (held.Valid g) e refl refl (a .1) (rw (h .1 .1) (omega arith)) (rw (h .1 .1) tt) (verdict-goal (valid end) e refl)
+        answer-kept e refl (a .0) (a .1) refl (rw (h .1 .1) (omega arith)) (rw (h .1 .1) tt) (verdict-goal (valid end) e refl)
     kept (refuted end) e h a =
-        answer-kept (refuted end) end (held.Refuted g) e refl refl (a .1) (h .1 .0) (h .0 .below) (verdict-goal (refuted end) e refl)
+        answer-kept e refl (a .0) (a .1) refl (h .1 .0) (h .0 .below) (verdict-goal (refuted end) e refl)
     kept (refused number) e h a = (
       ap book (a .1) ∙ sym (next-is (refused number) e ∙ by-cond (λ (k : Book). k ≡ book s) (eqb number 0) _ (book s) (λ _. refl) (λ _. refl)),
       subst (λ (u : Session). inRange u ≡ true) (sym (a .1)) in-range,
     )
-    kept unfinished e h a = absurd a
+    kept unfinished e h a = absurd (a .0)
 
     pub asked-as : AskedAs s g (outcome s g) x → AskedAs s g (answer (book s) g) x
     asked-as a = subst (λ (b : Bool). AskedAs s g (cond b (answer (book s) g) (refused 5)) x) in-range a
@@ -162,7 +160,7 @@ module _ (s : Session) (in-range : inRange s ≡ true) (r : Reached (book s)) wh
   unfolding refusal
   call-answer (addFlat left right) x m = added-answer (callOf (addFlat left right)) x m
   call-answer (addImplication a b c) x m = added-answer (callOf (addImplication a b c)) x m
-  call-answer (question g) x m = verdict-is g x (answer (book s) g) (asked-as g x m)
+  call-answer (question g) x m = asked-as g x m .0
 
   pub call-kept : (c : Made) (x : Returned c) → Meets s c x → Kept s (callOf c) (sessionOf c x)
   unfolding refusal
@@ -171,7 +169,7 @@ module _ (s : Session) (in-range : inRange s ≡ true) (r : Reached (book s)) wh
   call-kept (question g) x m = kept g x (answer (book s) g) refl (answer-right (book s) g r) (asked-as g x m)
 
 -- ---- every run
-follows : (cs : List Made) (s : Session) → inRange s ≡ true → Reached (book s) → (run : Run s cs) → Follows (book s) s cs run
+pub follows : (cs : List Made) (s : Session) → inRange s ≡ true → Reached (book s) → (run : Run s cs) → Follows (book s) s cs run
 follows [] s i r run = refl
 follows (c ∷ cs) s i r run =
     let kept : Kept s (callOf c) (sessionOf c (run .0)) = call-kept s i r c (run .0) (run .1) in (
@@ -182,7 +180,11 @@ follows (c ∷ cs) s i r run =
           (follows cs (sessionOf c (run .0)) (kept .1) (subst Reached (sym (kept .0)) (next-reached (book s) (callOf c) r)) (run .2)),
     )
 
+-- From a session that holds a reached book and no verdict.
+pub session-follows : {total : ℕ} (k : Book) → Reached k → (s : Session) → book s ≡ k → NothingHeld total s → (cs : List Made) (run : Run s cs) → Follows k s cs run
+session-follows {total} k reached s e nothing cs run =
+    let r : Reached (book s) = subst Reached (sym e) reached in
+    subst (λ (k : Book). Follows k s cs run) e (follows cs s (nothing-in-range total s r nothing) r run)
+
 pub demand-three : DemandThree
-demand-three n o h cs run =
-    let r : Reached (book (o .session)) = subst Reached (sym (h .holds)) (opened-reached n) in
-    (h .refused, subst (λ (k : Book). Follows k (o .session) cs run) (h .holds) (follows cs (o .session) (nothing-in-range 0 (o .session) r (h .nothing)) r run))
+demand-three n o h cs run = (h .refused, session-follows (opened n) (opened-reached n) (o .session) (h .holds) (h .nothing) cs run)

@@ -16,13 +16,17 @@ use Rattle.ipl.specs.Clause.{Implication, realizes}
 use Rattle.ipl.specs.Search.{Pair, firstAt, firstUnrealized}
 use Rattle.ipl.proofs.Lists.{tabulate-length, tabulate-at}
 use Rattle.prover.specs.State.{implicationRow, implicationsOf}
-use Rattle.prover.specs.Working.{realizedAt, FirstAt, Passed}
+use Rattle.prover.specs.Working.{realizedAt, FirstAt, firstPair, Passed}
 use Rattle.prover.specs.declared.Implications.{Implications}
 use Rattle.prover.specs.declared.realization.Pair as code
 
 -- What holds from `from` to before i, and at i, holds to before i + 1.
 pub passed-more : (f : ℕ → Bool) (from i : ℕ) → ((j : ℕ) → from ≤ j → j < i → T (f j)) → f i ≡ true → (j : ℕ) → from ≤ j → j < i + 1 → T (f j)
 passed-more f from i h e j k l = elim (decLt j i) [ yes m ↦ h j k m | no m ↦ subst (λ (j : ℕ). T (f j)) (omega arith) (true-T e) ]
+
+-- At the first pair nothing is passed.
+pub passed-first : (sets : List ℕ) (count : ℕ) (x : Implications) → Passed sets count x firstPair
+passed-first sets count x = record { worlds = λ w i h k. absurd (not-suc-le-zero h); implications = λ i h. absurd (not-suc-le-zero h) }
 
 -- ---- the definitions by places
 

@@ -2,7 +2,7 @@
 use mathlib.Core.Bool.{Bool, true, false, cond}
 use mathlib.Core.List.{List, [], _∷_, _++_, append-nil}
 use mathlib.Core.Logic.{_⊎_, inl, inr}
-use mathlib.Core.Path.{_≡_, refl, sym, ap}
+use mathlib.Core.Path.{_≡_, refl, sym, ap, _∙_}
 use Prim.Native.Nat.{ℕ, _<_}
 use native.Mathlib.Omega.{arith}
 use lib.Dec.{eqb, leb}
@@ -10,14 +10,14 @@ use lib.ListN.{length}
 use borrow.Author.Tests.{eqb-true, eq-eqb, ne-eqb}
 use Rattle.ipl.specs.Clause.{bot, one, Flat, Implication, closing, closings}
 use Rattle.ipl.specs.Range.{flatTable, implicationTable}
-use Rattle.ipl.specs.Book.{flatRefusal, implicationRefusal, flatsFull}
+use Rattle.ipl.specs.Book.{Book, flatRefusal, implicationRefusal, flatsFull}
 use Rattle.ipl.proofs.Lists.{tabulate-length}
 use Rattle.ipl.proofs.Range.{implication-below, single-one}
 use Rattle.ipl.proofs.Book.{flat-unrefused, ImplicationUnrefused, implication-unrefused}
 use Rattle.sat.specs.Table.{clauseAt, clauses}
 use Rattle.prover.specs.State.{implicationRow, flatsOf, implicationsOf, book}
 use Rattle.prover.specs.InRange.{inRange}
-use Rattle.prover.specs.Calls.{number, flatNumber, implicationNumber, ClosingFits}
+use Rattle.prover.specs.Calls.{number, flatNumber, implicationNumber, NothingHeld, ClosingFits, Added}
 use Rattle.prover.specs.declared.Session.{Session}
 use Rattle.prover.proofs.Sessions.{few-atoms}
 
@@ -32,6 +32,15 @@ number-zero s k = go (inRange s)
     go : (b : Bool) → cond b k 5 ≡ 0 → (b ≡ true) × (k ≡ 0)
     go true e = (refl, e)
     go false e = absurd (omega arith)
+
+-- ---- an addition that is taken, and one that is refused
+
+module _ (s : Session) (k : ℕ) (next : Book) (refusal : ℕ) (e : refusal ≡ k) where
+  pub addition-taken : refusal ≡ 0 → (u : Session) → (book u ≡ next) × NothingHeld (s .total) u → Added s k next (record { refusal = refusal; session = u })
+  addition-taken z u h = record { refused = e; unchanged = λ d. absurd (d (sym e ∙ z)); holds = λ _. h .0; nothing = λ _. h .1 }
+
+  pub addition-refused : (refusal ≡ 0 → ⊥) → Added s k next (record { refusal = refusal; session = s })
+  addition-refused d = record { refused = e; unchanged = λ _. refl; holds = λ z. absurd (d (e ∙ z)); nothing = λ z. absurd (d (e ∙ z)) }
 
 pub flat-room : (s : Session) (f : Flat) → flatNumber s f ≡ 0 → s .flats .count < flatTable
 flat-room s f e =

@@ -8,8 +8,8 @@ use Prim.Native.Nat.{ℕ, _+_, _≤_, _<_}
 use native.Mathlib.Omega.{arith}
 use lib.ListN.{length, set}
 use lib.Seq.{getD-set-same, getD-set-other}
-use Rattle.atoms.specs.Words.{words, rowOf, rowCount, RowSet}
-use Rattle.atoms.proofs.Machine.{row-count, same-rows}
+use Rattle.atoms.specs.Words.{rowOf, rowCount, RowSet}
+use Rattle.atoms.proofs.Machine.{row-count-words, same-rows}
 use Rattle.ipl.specs.Clause.{Implication}
 use Rattle.ipl.specs.Range.{flatTable}
 use Rattle.ipl.proofs.Lists.{tabulate-more}
@@ -24,10 +24,9 @@ byte-other t k x i h = getD-set-other t k i x 0 (λ e. omega arith)
 pub byte-same : (t : List ℕ) (k x : ℕ) → k < length t → byteAt (set t k x) k ≡ x
 byte-same t k x h = getD-set-same t k x 0 h
 
--- The tables' sizes, by their words.
-pub flat-room : (t : List ℕ) (k : ℕ) → length t ≡ 512 → k < flatTable → k < rowCount t
-unfolding words
-flat-room t k l h = omega (arith, row-count t 512 l)
+-- A flat row in a column of the table's size.
+pub flat-room : (t : List ℕ) (k : ℕ) → length t ≡ flatTable → k < flatTable → k < rowCount t
+flat-room t k l h = omega (arith, row-count-words t flatTable l)
 
 pub implications-more : (t : Implications) (a b c : ℕ) → t .count < length (t .a) → t .count < length (t .b) → t .count < length (t .c)
     → implicationsOf (record { count = t .count + 1; a = set (t .a) (t .count) a; b = set (t .b) (t .count) b; c = set (t .c) (t .count) c })

@@ -2,13 +2,12 @@
 use mathlib.Core.Bool.{Bool, true, _&&_}
 use mathlib.Core.List.{List}
 use mathlib.Core.Path.{_≡_, refl, _∙_}
-use Prim.Native.Nat.{ℕ, _≤_, _<_, zero-le}
-use native.Mathlib.Nat.{not-suc-le-zero}
+use Prim.Native.Nat.{ℕ, _+_, _≤_, _<_, zero-le}
 use native.Mathlib.Omega.{arith}
 use lib.Dec.{T, leb, ltb, leb→le, ltb→lt}
-use lib.ListN.{length}
 use Rattle.atoms.specs.Sets.{limit}
-use Rattle.atoms.proofs.Machine.{row-count-words}
+use Rattle.atoms.specs.Words.{rowCount}
+use Rattle.atoms.proofs.Machine.{same-rows}
 use Rattle.atoms.proofs.Truth.{T-left, T-right, T-and, T-true, true-T}
 use Rattle.ipl.specs.Lists.{all}
 use Rattle.ipl.specs.Range.{flatTable, implicationTable, stepTable, worldTable, setInRange, flatInRange, implicationInRange}
@@ -17,9 +16,11 @@ use Rattle.ipl.proofs.Lists.{all-All, All-tabulate}
 use Rattle.ipl.specs.Search.{stepInRange}
 use Rattle.prover.specs.State.{implicationRow, stepRow, flatsOf, implicationsOf, stepsOf, worldsOf}
 use Rattle.prover.specs.InRange.{flatsInRange, implicationsInRange, stepsInRange, worldsInRange, heldInRange, inRange}
-use Rattle.prover.specs.Working.{Usable, StepsFit, KnownWritten}
-use Rattle.prover.specs.Search.{Tables, Fresh}
+use Rattle.prover.specs.Working.{Usable, firstPair, StepsFit, KnownWritten}
+use Rattle.prover.specs.Search.{Tables, tables, Fresh}
+use Rattle.prover.specs.Settling.{Prepared}
 use Rattle.prover.specs.declared.Session.{Session}
+use Rattle.prover.proofs.Pairs.{passed-first}
 
 pub record Parts (s : Session) : Type 0 where
   pub count : T (countInRange (s .n))
@@ -48,7 +49,7 @@ module _ (s : Session) where
   abbrev f : Bool
   f = heldInRange (s .n) (s .held)
 
-  pub parts : inRange s ≡ true → Parts s
+  parts : inRange s ≡ true → Parts s
   unfolding inRange
   parts h =
       let k1 : T (b && (c && (d && (e && f)))) = T-right a (b && (c && (d && (e && f)))) (true-T h) in
@@ -110,35 +111,35 @@ module _ (s : Session) where
         (All-tabulate (λ t. T (stepInRange (s .n) (s .implications .count) t)) (stepRow (s .steps)) (s .steps .count) .0
         (all-All (stepInRange (s .n) (s .implications .count)) (stepsOf (s .steps)) (steps-count .1)) k h))
 
-    pub steps-fit : (left right : List ℕ) → length left ≡ 1024 → length right ≡ 1024 → StepsFit left right (s .flats .count) (s .steps) (s .implications)
+    pub steps-fit : (left right : List ℕ) → rowCount left ≡ flatTable + stepTable → rowCount right ≡ flatTable + stepTable
+        → StepsFit left right (s .flats .count) (s .steps) (s .implications)
     steps-fit left right l r = record {
       flats-room = few-flats;
-      left-room = omega (arith, few-flats, steps-count .0, row-count-words left 1024 l);
-      right-room = omega (arith, few-flats, steps-count .0, row-count-words right 1024 r);
+      left-room = omega (arith, few-flats, steps-count .0);
+      right-room = omega (arith, few-flats, steps-count .0);
       count = steps-count .0;
       implications = usable .count;
       numbers = number-below;
     }
 
     -- The working tables at the start.
-    pub fresh : (t : Tables) (left2 right2 : List ℕ) → length (t .left) ≡ 1024 → length (t .right) ≡ 1024 → length (t .numbers) ≡ 512 → length (t .assumed) ≡ 512 → length (t .sets) ≡ 256
-        → t .numbers ≡ s .steps .numbers → t .assumed ≡ s .steps .assumed → KnownWritten (t .left) (t .right) (s .flats) (s .steps) (s .implications) left2 right2
-        → Fresh (s .implications) (record { left = left2; right = right2; numbers = t .numbers; assumed = t .assumed; sets = t .sets })
-        (record { flats = s .flats .count; steps = s .steps .count; worlds = 0; questions = 0; pair = record { world = 0; implication = 0 } })
-    fresh t left2 right2 l r ln la ls n a k = record {
+    pub fresh : (t : Tables) (g : ℕ) → Prepared s g t → (left2 right2 : List ℕ) → KnownWritten (t .left) (t .right) (s .flats) (s .steps) (s .implications) left2 right2
+        → Fresh (s .implications) (tables left2 right2 (t .numbers) (t .assumed) (t .sets))
+        (record { flats = s .flats .count; steps = s .steps .count; worlds = 0; questions = 0; pair = firstPair })
+    fresh t g p left2 right2 k = record {
       working = record {
-        left-rows = row-count-words left2 1024 (k .left-size ∙ l);
-        right-rows = row-count-words right2 1024 (k .right-size ∙ r);
-        numbers-size = ln;
-        assumed-rows = row-count-words (t .assumed) 512 la;
-        set-rows = row-count-words (t .sets) 256 ls;
+        left-rows = same-rows left2 (t .left) (k .left-size) ∙ p .left-rows;
+        right-rows = same-rows right2 (t .right) (k .right-size) ∙ p .right-rows;
+        numbers-size = p .numbers-size;
+        assumed-rows = p .assumed-rows;
+        set-rows = p .set-rows;
         few-flats = few-flats;
         few-steps = steps-count .0;
         few-worlds = zero-le;
-        known-rows = rw (k .flat-rows, n, a) (k .known-rows);
+        known-rows = rw (k .flat-rows, p .numbers, p .assumed) (k .known-rows);
         pair-number = zero-le;
         pair-world = zero-le;
-        passed = record { worlds = λ v i a b. absurd (not-suc-le-zero a); implications = λ i a. absurd (not-suc-le-zero a) };
+        passed = passed-first (t .sets) 0 (s .implications);
       };
       no-worlds = refl;
       no-questions = refl;

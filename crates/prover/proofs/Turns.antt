@@ -27,8 +27,8 @@ use Rattle.ipl.proofs.Range.{ImplicationBelow, implication-below}
 use Rattle.ipl.proofs.Steps.{known-snoc}
 use Rattle.sat.specs.Table.{clauseAt, clauses}
 use Rattle.prover.specs.State.{byteAt, implicationRow, implicationsOf}
-use Rattle.prover.specs.Working.{FirstAtoms, Usable, realizedAt, Passed, NextPair, proves, learnedRow}
-use Rattle.prover.specs.Search.{Tables, flatsIn, knownIn, stepIn, stepsIn, worldsIn, stateOf, Working, Began, Grew, StepJoined, Learned, TurnRight}
+use Rattle.prover.specs.Working.{FirstAtoms, Usable, firstPair, realizedAt, Passed, NextPair, proves, learnedRow}
+use Rattle.prover.specs.Search.{Tables, tables, flatsIn, knownIn, stepIn, stepsIn, worldsIn, stateOf, Working, Began, Grew, StepJoined, Learned, TurnRight}
 use Rattle.prover.specs.declared.Implications.{Implications}
 use Rattle.prover.specs.declared.realization.Pair.{Pair}
 use Rattle.prover.specs.declared.question.Progress.{Progress}
@@ -36,9 +36,12 @@ use Rattle.prover.specs.declared.question.Turned.{Turned}
 use Rattle.prover.specs.declared.question.Turned.the-variants as turned
 use Rattle.prover.proofs.Rows.{byte-other, byte-same}
 use Rattle.prover.proofs.Dropping.{ask-min}
-use Rattle.prover.proofs.Pairs.{pair-found, pair-none}
+use Rattle.prover.proofs.Pairs.{passed-first, pair-found, pair-none}
 use Rattle.prover.proofs.Known.{learned-row}
 use Rattle.sat.proofs.Table.{clauses-more}
+
+abbrev withSets : Tables → List ℕ → Tables
+withSets t sets = tables (t .left) (t .right) (t .numbers) (t .assumed) sets
 
 -- Clauses whose rows stayed.
 clauses-same : (left right left2 right2 : List ℕ) (k : ℕ) → ((i : ℕ) → i < k → rowOf left2 i ≡ rowOf left i) → ((i : ℕ) → i < k → rowOf right2 i ≡ rowOf right i)
@@ -47,10 +50,10 @@ unfolding clauses
 clauses-same left right left2 right2 k hl hr =
     tabulate-same (clauseAt left2 right2) (clauseAt left right) k (λ i h. ap₂ (λ (x y : ℕ). record { left = x; right = y }) (hl i h) (hr i h))
 
-pub first-atoms : (n : ℕ) (x : Implications) → Usable n x → FirstAtoms x
-first-atoms n x u i h = omega (arith, implication-below n (implicationRow x i) (u .rows i h) .a, u .few)
+pub first-atoms : {n : ℕ} {x : Implications} → Usable n x → FirstAtoms x
+first-atoms {n} {x} u i h = omega (arith, implication-below n (implicationRow x i) (u .rows i h) .a, u .few)
 
-module _ (n g : ℕ) (x : Implications) (u : Usable n x) (t : Tables) (p : Progress) (w : Working x t p) where
+module _ {n : ℕ} (g : ℕ) {x : Implications} (u : Usable n x) {t : Tables} {p : Progress} (w : Working x t p) where
   -- The question over the clauses known, as the code puts it.
   asked : (A b : ℕ) → ask (min n limit) (knownIn t p) A b ≡ ask n (known (flatsIn t p) (implicationsOf x) (stepsIn t p)) A b
   asked A b = ask-min n (knownIn t p) A b (u .few) ∙ ap (λ (R : List Flat). ask n R A b) (w .known-rows)
@@ -76,9 +79,9 @@ module _ (n g : ℕ) (x : Implications) (u : Usable n x) (t : Tables) (p : Progr
     began-more m e = at-begin ∙ ap (begin (stateOf t p)) (sym (e ∙ asked 0 g))
 
     pub begin-right : (sets2 : List ℕ) (r : Turned) → Began (t .left) (t .right) (t .sets) n g p sets2 r
-        → TurnRight n g x t p (record { left = t .left; right = t .right; numbers = t .numbers; assumed = t .assumed; sets = sets2 }) r
+        → TurnRight n g x t p (withSets t sets2) r
     begin-right sets2 turned.Valid h =
-        (began-valid (h .0), ap (λ (s : List ℕ). record { left = t .left; right = t .right; numbers = t .numbers; assumed = t .assumed; sets = s }) (h .1))
+        (began-valid (h .0), ap (λ (s : List ℕ). withSets t s) (h .1))
     begin-right sets2 turned.Refuted h = absurd h
     begin-right sets2 (turned.Full k) h = absurd h
     begin-right sets2 (turned.More q) h = rw (h .3) (next, joined, refl, refl)
@@ -89,8 +92,8 @@ module _ (n g : ℕ) (x : Implications) (u : Usable n x) (t : Tables) (p : Progr
             began-more (h .0) (h .1)
             ∙ ap₂ (λ (m k : ℕ). more (record { steps = stepsIn t p; worlds = m ∷ []; questions = k })) (sym (h .2 .written (omega (arith, w .set-rows)))) (sym (add-one (p .questions)))
 
-        joined : Working x (record { left = t .left; right = t .right; numbers = t .numbers; assumed = t .assumed; sets = sets2 })
-            (record { flats = p .flats; steps = p .steps; worlds = 1; questions = p .questions + 1; pair = record { world = 0; implication = 0 } })
+        joined : Working x (withSets t sets2)
+            (record { flats = p .flats; steps = p .steps; worlds = 1; questions = p .questions + 1; pair = firstPair })
         joined = record {
           left-rows = w .left-rows;
           right-rows = w .right-rows;
@@ -103,7 +106,7 @@ module _ (n g : ℕ) (x : Implications) (u : Usable n x) (t : Tables) (p : Progr
           known-rows = w .known-rows;
           pair-number = zero-le;
           pair-world = zero-le;
-          passed = record { worlds = λ v i a b. absurd (not-suc-le-zero a); implications = λ i a. absurd (not-suc-le-zero a) };
+          passed = passed-first sets2 1 x;
         }
 
   -- ---- points 2 to 4
@@ -113,7 +116,7 @@ module _ (n g : ℕ) (x : Implications) (u : Usable n x) (t : Tables) (p : Progr
   look-with [] h = absurd (not-suc-le-zero h)
   look-with (v ∷ W) h = refl
 
-  module _ (some-world : p .worlds ≡ 0 → ⊥) (q : Pair) (np : NextPair (t .sets) (p .worlds) x (p .pair) q) where
+  module _ (some-world : p .worlds ≡ 0 → ⊥) {q : Pair} (np : NextPair (t .sets) (p .worlds) x (p .pair) q) where
     at-look : turn n (flatsIn t p) (implicationsOf x) g (stateOf t p)
         ≡ look n (known (flatsIn t p) (implicationsOf x) (stepsIn t p)) (stateOf t p) (firstUnrealized (worldsIn t p) (implicationsOf x) (worldsIn t p))
     unfolding turn
@@ -152,7 +155,7 @@ module _ (n g : ℕ) (x : Implications) (u : Usable n x) (t : Tables) (p : Progr
           → given ≡ insert (rowOf (t .sets) (q .world)) (byteAt (x .a) (q .implication))
       given-is one given eo v ev eg = eg ∙ ap₂ union ev (eo ∙ single-bits (byteAt (x .a) (q .implication)) (omega (arith, below .a, u .few)))
 
-      module _ (given : ℕ) (eg : given ≡ insert (rowOf (t .sets) (q .world)) (byteAt (x .a) (q .implication))) where
+      module _ {given : ℕ} (eg : given ≡ insert (rowOf (t .sets) (q .world)) (byteAt (x .a) (q .implication))) where
         answered : (o : Option ℕ) → o ≡ ask (min n limit) (knownIn t p) given (byteAt (x .b) (q .implication))
             → turn n (flatsIn t p) (implicationsOf x) g (stateOf t p) ≡ resolve n (known (flatsIn t p) (implicationsOf x) (stepsIn t p)) (stateOf t p) pair o
         answered o e =
@@ -161,7 +164,7 @@ module _ (n g : ℕ) (x : Implications) (u : Usable n x) (t : Tables) (p : Progr
             (sym (e ∙ asked given (byteAt (x .b) (q .implication)) ∙ ap (λ (A : ℕ). ask n (known (flatsIn t p) (implicationsOf x) (stepsIn t p)) A (byteAt (x .b) (q .implication))) eg))
 
         -- ---- point 3
-        module _ (m : ℕ) (e : some m ≡ ask (min n limit) (knownIn t p) given (byteAt (x .b) (q .implication))) where
+        module _ {m : ℕ} (e : some m ≡ ask (min n limit) (knownIn t p) given (byteAt (x .b) (q .implication))) where
           grown : turn n (flatsIn t p) (implicationsOf x) g (stateOf t p) ≡ more (record { steps = stepsIn t p; worlds = worldsIn t p ++ (m ∷ []); questions = suc (p .questions) })
           unfolding resolve
           grown = answered (some m) e
@@ -188,7 +191,7 @@ module _ (n g : ℕ) (x : Implications) (u : Usable n x) (t : Tables) (p : Progr
                   | inr s ↦ T-inr (has M (j .a) || has M (j .b) || has M (j .c)) (any (beyond j M) (worldsIn t p ++ (m ∷ []))) (any-left (beyond j M) (worldsIn t p) (m ∷ []) s)
                 ])
 
-            grown-working : Working x (record { left = t .left; right = t .right; numbers = t .numbers; assumed = t .assumed; sets = sets2 })
+            grown-working : Working x (withSets t sets2)
                 (record { flats = p .flats; steps = p .steps; worlds = p .worlds + 1; questions = p .questions + 1; pair = q })
             grown-working = record {
               left-rows = w .left-rows;
@@ -209,7 +212,7 @@ module _ (n g : ℕ) (x : Implications) (u : Usable n x) (t : Tables) (p : Progr
             }
 
           pub grow-right : (sets2 : List ℕ) (r : Turned) → Grew (t .sets) p q m sets2 r
-              → TurnRight n g x t p (record { left = t .left; right = t .right; numbers = t .numbers; assumed = t .assumed; sets = sets2 }) r
+              → TurnRight n g x t p (withSets t sets2) r
           grow-right sets2 turned.Valid h = absurd h
           grow-right sets2 turned.Refuted h = absurd h
           grow-right sets2 (turned.Full k) h = λ rest. grown-full (h .1) rest ∙ ap refused (sym (h .0))
@@ -247,7 +250,8 @@ module _ (n g : ℕ) (x : Implications) (u : Usable n x) (t : Tables) (p : Progr
             steps-more : tabulate (stepIn (t2 .numbers) (t2 .assumed)) (p .steps + 1) ≡ stepsIn t p ++ (step ∷ [])
             steps-more =
                 tabulate-more (stepIn (t .numbers) (t .assumed)) (stepIn (t2 .numbers) (t2 .assumed)) (record { number = q .implication; assumed = j .A }) (p .steps)
-                (λ i h. ap₂ (λ (a b : ℕ). record { number = a; assumed = b }) (ap (λ (l : List ℕ). byteAt l i) (j .numbers) ∙ byte-other (t .numbers) (p .steps) (q .implication) i h) (j .assumed .others i (λ d. omega arith)))
+                (λ i h. ap₂ (λ (a b : ℕ). record { number = a; assumed = b })
+                (ap (λ (l : List ℕ). byteAt l i) (j .numbers) ∙ byte-other (t .numbers) (p .steps) (q .implication) i h) (j .assumed .others i (λ d. omega arith)))
                 (ap₂ (λ (a b : ℕ). record { number = a; assumed = b })
                 (ap (λ (l : List ℕ). byteAt l (p .steps)) (j .numbers) ∙ byte-same (t .numbers) (p .steps) (q .implication) (omega (arith, w .numbers-size, j .room)))
                 (j .assumed .written (omega (arith, w .assumed-rows, j .room))))
@@ -269,7 +273,7 @@ module _ (n g : ℕ) (x : Implications) (u : Usable n x) (t : Tables) (p : Progr
                 ∙ sym (known-snoc (flatsIn t p) (implicationsOf x) (stepsIn t p) step)
                 ∙ sym (ap₂ (λ (F : List Flat) (S : List Step). known F (implicationsOf x) S) flats-stay steps-more)
 
-            learnt-working : Working x t2 (record { flats = p .flats; steps = p .steps + 1; worlds = 0; questions = p .questions + 1; pair = record { world = 0; implication = 0 } })
+            learnt-working : Working x t2 (record { flats = p .flats; steps = p .steps + 1; worlds = 0; questions = p .questions + 1; pair = firstPair })
             learnt-working = record {
               left-rows = same-rows (t2 .left) (t .left) (j .left .size) ∙ w .left-rows;
               right-rows = same-rows (t2 .right) (t .right) (j .right .size) ∙ w .right-rows;
@@ -282,7 +286,7 @@ module _ (n g : ℕ) (x : Implications) (u : Usable n x) (t : Tables) (p : Progr
               known-rows = known-more;
               pair-number = zero-le;
               pair-world = zero-le;
-              passed = record { worlds = λ v i a b. absurd (not-suc-le-zero a); implications = λ i a. absurd (not-suc-le-zero a) };
+              passed = passed-first (t2 .sets) 0 x;
             }
 
           pub learn-right : (t2 : Tables) (r : Turned) → Learned n x (q .implication) given t p t2 r → TurnRight n g x t p t2 r

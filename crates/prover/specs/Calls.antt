@@ -1,18 +1,19 @@
 -- The contracts of the calls: the number of the refusal, and what the session holds next, refused or not.
 use mathlib.Core.Bool.{cond}
-use mathlib.Core.List.{[]}
+use mathlib.Core.List.{List, []}
 use mathlib.Core.Path.{_≡_}
 use Prim.Native.Nat.{ℕ, _+_, _<_, min}
 use lib.ListN.{length}
 use Rattle.atoms.specs.Words.{num, singleOrEmpty}
 use Rattle.ipl.specs.Clause.{bot, one, Flat, Implication}
-use Rattle.ipl.specs.Range.{flatTable, atomOrBot}
-use Rattle.ipl.specs.Search.{State, Outcome, valid, refuted, refused, unfinished}
-use Rattle.ipl.specs.Book.{Book, addFlat, addImplication, opened, openRefusal, flatRefusal, implicationRefusal, answer, taken}
+use Rattle.ipl.specs.Range.{flatTable}
+use Rattle.ipl.specs.Search.{Step, State, Outcome, valid, refuted, refused, unfinished}
+use Rattle.ipl.specs.Book.{Book, addFlat, addImplication, opened, openRefusal, flatRefusal, implicationRefusal, goalRefusal, answer, taken}
 use Rattle.prover.specs.State.{flatsOf, implicationsOf, worldsOf, book}
 use Rattle.prover.specs.InRange.{inRange}
 use Rattle.prover.specs.declared.Held.{Held}
 use Rattle.prover.specs.declared.Held.the-variants as held
+use Rattle.prover.specs.declared.Verdict.{Verdict}
 use Rattle.prover.specs.declared.Verdict.the-variants as verdict
 use Rattle.prover.specs.declared.Flats.{Flats}
 use Rattle.prover.specs.declared.Session.{Session}
@@ -24,9 +25,11 @@ use Rattle.atoms.specs.declared.AtomSet.{AtomSet}
 abbrev pub number : Session → ℕ → ℕ
 number s k = cond (inRange s) k 5
 
+-- The clause that two sets of the code are.
 abbrev pub flatOf : AtomSet → AtomSet → Flat
 flatOf left right = record { left = num left; right = num right }
 
+-- The number that each call meets: 5, or that of the book.
 abbrev pub flatNumber : Session → Flat → ℕ
 flatNumber s f = number s (flatRefusal (book s) f)
 
@@ -45,6 +48,7 @@ pub record ClosingFits (t : Flats) (b c : ℕ) : Type 0 where
   pub b-atom : singleOrEmpty b ≡ one b
   pub c-atom : singleOrEmpty c ≡ one c
 
+-- "An opening gives its n, or 1 where n is out of range; the rest begins empty."
 pub record Opened (n : ℕ) (r : Changed) : Type 0 where
   pub refused : r .refusal ≡ openRefusal n
   pub holds : book (r .session) ≡ opened n
@@ -57,6 +61,7 @@ pub record Added (s : Session) (refusal : ℕ) (next : Book) (r : Changed) : Typ
   pub holds : refusal ≡ 0 → book (r .session) ≡ next
   pub nothing : refusal ≡ 0 → NothingHeld (s .total) (r .session)
 
+-- The contracts of the two additions.
 abbrev pub FlatAdded : Session → AtomSet → AtomSet → Changed → Type 0
 FlatAdded s left right = Added s (flatNumber s (flatOf left right)) (taken (book s) (addFlat (flatOf left right)))
 
@@ -66,30 +71,55 @@ ImplicationAdded s a b c =
 
 -- ---- questions
 
--- 6: a goal out of range.
+-- 5, or the number that the book has for the goal.
 abbrev pub goalNumber : Session → ℕ → ℕ
-goalNumber s g = number s (cond (atomOrBot (s .n) g) 0 6)
+goalNumber s g = number s (goalRefusal (book s) g)
 
 -- "One total counts the classical questions .. it stays at 4,294,967,295 once there."
-abbrev pub totalAfter : ℕ → ℕ → ℕ
-totalAfter total questions = min (total + questions) 4294967295
+abbrev pub mostTotal : ℕ
+mostTotal = 4294967295
 
--- The session r after s and a search that ended there: the same clauses, its steps, its worlds, the verdict.
-pub record Answer (s : Session) (end : State) (held : Held) (r : Session) : Type 0 where
-  pub holds : book r ≡ record { n = s .n; flats = flatsOf (s .flats); implications = implicationsOf (s .implications); steps = end .steps }
-  pub shows : worldsOf (r .worlds) ≡ end .worlds
-  pub verdict : r .held ≡ held
+-- The total after this many questions more.
+abbrev pub totalAfter : ℕ → ℕ → ℕ
+totalAfter total questions = min (total + questions) mostTotal
+
+-- The answer gives the verdict v; its session keeps it as h, and shows the worlds of the search's end.
+pub record Given (v : Verdict) (h : Held) (end : State) (r : Answered) : Type 0 where
+  pub verdict : r .verdict ≡ v
+  pub kept : r .session .held ≡ h
+  pub shows : worldsOf (r .session .worlds) ≡ end .worlds
+
+-- "One answer is valid, refuted or refused, each with its own figures": the steps held, the worlds, the refusal's number.
+abbrev pub VerdictIs : ℕ → Outcome → Answered → Type 0
+VerdictIs g (valid end) r = Given (verdict.Valid (length (end .steps))) (held.Valid g) end r
+VerdictIs g (refuted end) r = Given (verdict.Refuted (length (end .worlds))) (held.Refuted g) end r
+VerdictIs g (refused number) r = r .verdict ≡ verdict.Refused number 0
+VerdictIs g unfinished r = ⊥
+
+-- The book of s with other steps.
+abbrev pub withSteps : Session → List Step → Book
+withSteps s S = record { n = s .n; flats = flatsOf (s .flats); implications = implicationsOf (s .implications); steps = S }
+
+-- The session r after s and a search that ended there: the same clauses, the search's steps, and its questions counted.
+pub record Searched (s : Session) (end : State) (r : Session) : Type 0 where
+  pub holds : book r ≡ withSteps s (end .steps)
   pub total : r .total ≡ totalAfter (s .total) (end .questions)
+
+-- What the session holds besides the verdict; a refusal leaves it as it was.
+abbrev Leaves : Session → Outcome → Session → Type 0
+Leaves s (valid end) r = Searched s end r
+Leaves s (refuted end) r = Searched s end r
+Leaves s (refused number) r = r ≡ s
+Leaves s unfinished r = ⊥
+
+-- The answer r to a question put to s that comes to the outcome o.
+abbrev pub AskedAs : Session → ℕ → Outcome → Answered → Type 0
+AskedAs s g o r = VerdictIs g o r × Leaves s o (r .session)
 
 -- What a question meets: "5 before all else", then the answer of the book.
 abbrev pub outcome : Session → ℕ → Outcome
 outcome s g = cond (inRange s) (answer (book s) g) (refused 5)
 
-abbrev pub AskedAs : Session → ℕ → Outcome → Answered → Type 0
-AskedAs s g (valid end) r = (r .verdict ≡ verdict.Valid (length (end .steps))) × Answer s end (held.Valid g) (r .session)
-AskedAs s g (refuted end) r = (r .verdict ≡ verdict.Refuted (length (end .worlds))) × Answer s end (held.Refuted g) (r .session)
-AskedAs s g (refused number) r = (r .verdict ≡ verdict.Refused number 0) × (r .session ≡ s)
-AskedAs s g unfinished r = ⊥
-
+-- The contract of a question.
 abbrev pub Asked : Session → ℕ → Answered → Type 0
 Asked s g = AskedAs s g (outcome s g)

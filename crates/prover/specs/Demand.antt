@@ -2,19 +2,15 @@
 use mathlib.Core.List.{List, [], _∷_}
 use mathlib.Core.Path.{_≡_}
 use Prim.Native.Nat.{ℕ}
-use lib.ListN.{length}
 use Rattle.atoms.specs.declared.AtomSet.{AtomSet}
-use Rattle.ipl.specs.Search.{Outcome, valid, refuted, refused, unfinished}
 use Rattle.ipl.specs.Book as B
 use Rattle.ipl.specs.Book.{Book, Call, openRefusal, opened, refusal, answer, next}
 use Rattle.ipl.specs.Demand.{Claim}
-use Rattle.prover.specs.State.{worldsOf, book}
-use Rattle.prover.specs.Calls.{flatOf, Opened, FlatAdded, ImplicationAdded, Asked}
+use Rattle.prover.specs.State.{book}
+use Rattle.prover.specs.Calls.{flatOf, Opened, FlatAdded, ImplicationAdded, VerdictIs, Asked}
 use Rattle.prover.specs.declared.Session.{Session}
 use Rattle.prover.specs.declared.Changed.{Changed}
 use Rattle.prover.specs.declared.Answered.{Answered}
-use Rattle.prover.specs.declared.Held.the-variants as held
-use Rattle.prover.specs.declared.Verdict.the-variants as verdict
 
 -- A call as a program makes it, with any numbers.
 pub data Made : Type 0 where
@@ -50,14 +46,7 @@ abbrev pub Run : Session → List Made → Type 0
 Run s [] = Unit {0}
 Run s (c ∷ cs) = (r : Returned c) × Meets s c r × Run (sessionOf c r) cs
 
--- The verdict of the outcome on g, with its figure, and kept in the session; the worlds shown are its worlds.
-abbrev pub VerdictIs : ℕ → Outcome → Answered → Type 0
-VerdictIs g (valid end) r = (r .verdict ≡ verdict.Valid (length (end .steps))) × (r .session .held ≡ held.Valid g)
-VerdictIs g (refuted end) r = (r .verdict ≡ verdict.Refuted (length (end .worlds))) × (r .session .held ≡ held.Refuted g) × (worldsOf (r .session .worlds) ≡ end .worlds)
-VerdictIs g (refused number) r = r .verdict ≡ verdict.Refused number 0
-VerdictIs g unfinished r = ⊥
-
--- "Each answer": the number of the book's refusal, or the verdict of the book's answer.
+-- "Each answer": the number of the book's refusal, or the verdict of the book's answer, with its figure, held and shown.
 abbrev pub AnswerIs : Book → (c : Made) → Returned c → Type 0
 AnswerIs k (addFlat left right) r = r .refusal ≡ refusal k (callOf (addFlat left right))
 AnswerIs k (addImplication a b c) r = r .refusal ≡ refusal k (callOf (addImplication a b c))

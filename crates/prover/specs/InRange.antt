@@ -2,7 +2,7 @@
 -- out of range .. (unused rows are not judged)".
 use mathlib.Core.Bool.{Bool, true, _&&_}
 use Prim.Native.Nat.{ℕ}
-use lib.Dec.{leb, ltb}
+use lib.Dec.{leb}
 use Rattle.ipl.specs.Lists.{all}
 use Rattle.ipl.specs.Range.{flatTable, implicationTable, stepTable, worldTable, atomOrBot, setInRange, flatInRange, implicationInRange}
 use Rattle.ipl.specs.Search.{stepInRange}
@@ -16,6 +16,7 @@ use Rattle.prover.specs.declared.Held.{Held}
 use Rattle.prover.specs.declared.Held.the-variants.{Nothing, Valid, Refuted}
 use Rattle.prover.specs.declared.Session.{Session}
 
+-- Each table: its count, and its held rows.
 unfoldable pub flatsInRange : ℕ → Flats → Bool
 flatsInRange n t = leb (t .count) flatTable && all (flatInRange n) (flatsOf t)
 
@@ -28,11 +29,13 @@ stepsInRange n m t = leb (t .count) stepTable && all (stepInRange n m) (stepsOf 
 unfoldable pub worldsInRange : ℕ → Worlds → Bool
 worldsInRange n t = leb (t .count) worldTable && all (setInRange n) (worldsOf t)
 
+-- The goal of the verdict held.
 unfoldable pub heldInRange : ℕ → Held → Bool
 heldInRange n Nothing = true
 heldInRange n (Valid g) = atomOrBot n g
 heldInRange n (Refuted g) = atomOrBot n g
 
+-- The opposite of refusal 5.
 unfoldable pub inRange : Session → Bool
 inRange s =
     countInRange (s .n)

@@ -1,4 +1,6 @@
--- Definitions of the crate `prover`: what a session holds, when it is in range, and what each call answers and holds next.
+-- Definitions of the crate `prover`. The contracts of its public functions say by State what a session holds, by InRange when it
+-- is in range, and by Calls what each call answers and holds next; Demand is the statement of demand 3. In Working, Search and
+-- Settling the parts of a question speak to each other.
 pub mod State
 pub mod InRange
 pub mod Calls

@@ -10,10 +10,10 @@ use Rattle.ipl.specs.Lists.{tabulate}
 use Rattle.ipl.specs.Clause.{Flat}
 use Rattle.ipl.specs.Range.{flatTable, implicationTable, stepTable, worldTable}
 use Rattle.ipl.specs.Question.{ask}
-use Rattle.ipl.specs.Search.{Step, known, dropFrom, State, Outcome, valid, refuted, refused, done, more, goOn, turn, run}
+use Rattle.ipl.specs.Search.{Step, known, dropFrom, State, Outcome, valid, refuted, refused, done, more, goOn, mostTurns, turn, run}
 use Rattle.sat.specs.Table.{clauses}
 use Rattle.prover.specs.State.{byteAt, implicationsOf}
-use Rattle.prover.specs.Working.{Passed, proves, learnedRow}
+use Rattle.prover.specs.Working.{firstPair, Passed, proves, learnedRow}
 use Rattle.prover.specs.declared.Implications.{Implications}
 use Rattle.prover.specs.declared.realization.Pair.{Pair}
 use Rattle.prover.specs.declared.question.Progress.{Progress}
@@ -29,6 +29,10 @@ pub record Tables : Type 0 where
   pub numbers : List ℕ
   pub assumed : List ℕ
   pub sets : List ℕ
+
+-- The tables with these columns.
+abbrev pub tables : List ℕ → List ℕ → List ℕ → List ℕ → List ℕ → Tables
+tables left right numbers assumed sets = record { left = left; right = right; numbers = numbers; assumed = assumed; sets = sets }
 
 -- The flat clauses, all clauses known, the steps and the worlds that they hold.
 abbrev pub flatsIn : Tables → Progress → List Flat
@@ -50,12 +54,13 @@ worldsIn t p = tabulate (rowOf (t .sets)) (p .worlds)
 abbrev pub stateOf : Tables → Progress → State
 stateOf t p = record { steps = stepsIn t p; worlds = worldsIn t p; questions = p .questions }
 
+-- Tables of the right sizes: the clauses known follow from the flat clauses and the steps, and every pair before the next is realized.
 pub record Working (x : Implications) (t : Tables) (p : Progress) : Type 0 where
-  pub left-rows : rowCount (t .left) ≡ 1024
-  pub right-rows : rowCount (t .right) ≡ 1024
-  pub numbers-size : length (t .numbers) ≡ 512
-  pub assumed-rows : rowCount (t .assumed) ≡ 512
-  pub set-rows : rowCount (t .sets) ≡ 256
+  pub left-rows : rowCount (t .left) ≡ flatTable + stepTable
+  pub right-rows : rowCount (t .right) ≡ flatTable + stepTable
+  pub numbers-size : length (t .numbers) ≡ stepTable
+  pub assumed-rows : rowCount (t .assumed) ≡ stepTable
+  pub set-rows : rowCount (t .sets) ≡ worldTable
   pub few-flats : p .flats ≤ flatTable
   pub few-steps : p .steps ≤ stepTable
   pub few-worlds : p .worlds ≤ worldTable
@@ -71,7 +76,7 @@ Began left right sets n goal p after turned.Refuted = ⊥
 Began left right sets n goal p after (turned.Full k) = ⊥
 Began left right sets n goal p after (turned.More q) =
     (m : ℕ) × (some m ≡ ask (min n limit) (clauses left right (p .flats + p .steps)) 0 goal) × RowSet sets 0 m after
-    × (q ≡ record { flats = p .flats; steps = p .steps; worlds = 1; questions = p .questions + 1; pair = record { world = 0; implication = 0 } })
+    × (q ≡ record { flats = p .flats; steps = p .steps; worlds = 1; questions = p .questions + 1; pair = firstPair })
 
 -- Point 3 in the tables: the world m joins.
 abbrev pub Grew : List ℕ → Progress → Pair → ℕ → List ℕ → Turned → Type 0
@@ -83,12 +88,12 @@ Grew sets p pair m after (turned.More q) =
     × (q ≡ record { flats = p .flats; steps = p .steps; worlds = p .worlds + 1; questions = p .questions + 1; pair = pair })
 
 -- What point 4 relies on.
-pub record LearnFits (n : ℕ) (x : Implications) (i : ℕ) (numbers : List ℕ) (p : Progress) : Type 0 where
+pub record LearnFits (n i : ℕ) (numbers : List ℕ) (p : Progress) : Type 0 where
   pub few : n ≤ limit
   pub number : i < implicationTable
-  pub size : length numbers ≡ 512
+  pub size : length numbers ≡ stepTable
   pub flats : p .flats ≤ flatTable
-  pub questions : p .questions < 513 * 258
+  pub questions : p .questions < mostTurns
 
 -- Point 4 in the tables: the step (i, A) and its clause join, and the worlds go.
 pub record StepJoined (n : ℕ) (x : Implications) (i given : ℕ) (t : Tables) (p : Progress) (t2 : Tables) (q : Progress) : Type 0 where
@@ -100,8 +105,9 @@ pub record StepJoined (n : ℕ) (x : Implications) (i given : ℕ) (t : Tables) 
   pub left : RowSet (t .left) (p .flats + p .steps) (learnedRow x i A .left) (t2 .left)
   pub right : RowSet (t .right) (p .flats + p .steps) (learnedRow x i A .right) (t2 .right)
   pub sets : t2 .sets ≡ t .sets
-  pub progress : q ≡ record { flats = p .flats; steps = p .steps + 1; worlds = 0; questions = p .questions + 1; pair = record { world = 0; implication = 0 } }
+  pub progress : q ≡ record { flats = p .flats; steps = p .steps + 1; worlds = 0; questions = p .questions + 1; pair = firstPair }
 
+-- Point 4, or its refusal.
 abbrev pub Learned : ℕ → Implications → ℕ → ℕ → Tables → Progress → Tables → Turned → Type 0
 Learned n x i given t p t2 turned.Valid = ⊥
 Learned n x i given t p t2 turned.Refuted = ⊥
@@ -119,14 +125,14 @@ TurnRight n g x t p t2 (turned.More q) =
 
 -- The turns that there can be from p on.
 abbrev pub turnsLeft : Progress → ℕ
-turnsLeft p = (512 - p .steps) * 258 + (257 - p .worlds)
+turnsLeft p = (stepTable - p .steps) * (worldTable + 2) + (worldTable + 1 - p .worlds)
 
 -- The turns from p on, over the flat clauses F, come to the outcome o.
 pub record Underway (n g : ℕ) (x : Implications) (F : List Flat) (o : Outcome) (t : Tables) (p : Progress) : Type 0 where
   pub working : Working x t p
   pub flats : flatsIn t p ≡ F
-  pub turns : p .questions + turnsLeft p < 513 * 258
-  pub rest : run n F (implicationsOf x) g (513 * 258 - p .questions) (stateOf t p) ≡ o
+  pub turns : p .questions + turnsLeft p < mostTurns
+  pub rest : run n F (implicationsOf x) g (mostTurns - p .questions) (stateOf t p) ≡ o
 
 -- Before the first turn: no world and no question.
 pub record Fresh (x : Implications) (t : Tables) (p : Progress) : Type 0 where
@@ -136,6 +142,6 @@ pub record Fresh (x : Implications) (t : Tables) (p : Progress) : Type 0 where
 
 -- The outcome o, as the tables hold it at the end.
 abbrev pub Ended : Outcome → Tables → End → Type 0
-Ended o t (end.Valid p) = (o ≡ valid (record { steps = stepsIn t p; worlds = []; questions = suc (p .questions) })) × (p .questions < 513 * 258)
-Ended o t (end.Refuted p) = (o ≡ refuted (stateOf t p)) × (p .questions < 513 * 258)
+Ended o t (end.Valid p) = (o ≡ valid (record { steps = stepsIn t p; worlds = []; questions = suc (p .questions) })) × (p .questions < mostTurns)
+Ended o t (end.Refuted p) = (o ≡ refuted (stateOf t p)) × (p .questions < mostTurns)
 Ended o t (end.Full k) = o ≡ refused k

@@ -1,12 +1,17 @@
 -- A question from the session's rows to its answer.
 use mathlib.Core.List.{List}
 use mathlib.Core.Path.{_≡_}
-use Prim.Native.Nat.{ℕ}
+use Prim.Native.Nat.{ℕ, _+_}
 use lib.ListN.{length}
-use Rattle.ipl.specs.Search.{Outcome, search}
+use Rattle.atoms.specs.Words.{rowCount}
+use Rattle.ipl.specs.Range.{flatTable, stepTable, worldTable}
+use Rattle.ipl.specs.Search.{State, Outcome, search}
 use Rattle.prover.specs.State.{flatsOf, implicationsOf, stepsOf}
-use Rattle.prover.specs.Calls.{goalNumber}
-use Rattle.prover.specs.Search.{Tables, Ended}
+use Rattle.prover.specs.Calls.{goalNumber, Given, Searched}
+use Rattle.prover.specs.Search.{Tables, tables, Ended}
+use Rattle.prover.specs.declared.Held.{Held}
+use Rattle.prover.specs.declared.Verdict.{Verdict}
+use Rattle.prover.specs.declared.Answered.{Answered}
 use Rattle.prover.specs.declared.Session.{Session}
 use Rattle.prover.specs.declared.Steps.{Steps}
 use Rattle.prover.specs.declared.Worlds.{Worlds}
@@ -19,16 +24,20 @@ whole s g = search (s .n) (flatsOf (s .flats)) (implicationsOf (s .implications)
 -- Tables of the right sizes, with the session's steps, and a goal that is not refused.
 pub record Prepared (s : Session) (g : ℕ) (t : Tables) : Type 0 where
   pub unrefused : goalNumber s g ≡ 0
-  pub left-size : length (t .left) ≡ 1024
-  pub right-size : length (t .right) ≡ 1024
-  pub numbers-size : length (t .numbers) ≡ 512
-  pub assumed-size : length (t .assumed) ≡ 512
-  pub sets-size : length (t .sets) ≡ 256
+  pub left-rows : rowCount (t .left) ≡ flatTable + stepTable
+  pub right-rows : rowCount (t .right) ≡ flatTable + stepTable
+  pub numbers-size : length (t .numbers) ≡ stepTable
+  pub assumed-rows : rowCount (t .assumed) ≡ stepTable
+  pub set-rows : rowCount (t .sets) ≡ worldTable
   pub numbers : t .numbers ≡ s .steps .numbers
   pub assumed : t .assumed ≡ s .steps .assumed
+
+-- The answer r with the verdict v, held as h, after s and a search that ended there.
+abbrev pub Concluded : Session → State → Verdict → Held → Answered → Type 0
+Concluded s end v h r = Given v h end r × Searched s end (r .session)
 
 -- The search ended in tables that have these steps and worlds.
 pub record Concluding (s : Session) (g : ℕ) (steps : Steps) (worlds : Worlds) (end : End) : Type 0 where
   pub left : List ℕ
   pub right : List ℕ
-  pub ended : Ended (whole s g) (record { left = left; right = right; numbers = steps .numbers; assumed = steps .assumed; sets = worlds .sets }) end
+  pub ended : Ended (whole s g) (tables left right (steps .numbers) (steps .assumed) (worlds .sets)) end

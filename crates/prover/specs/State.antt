@@ -1,4 +1,5 @@
--- What a session holds: the held rows of its tables as lists, and the book that they are.
+-- What a session holds: the held rows of its tables as lists, and the book that they are. Rows past a count are the program's
+-- choice: no definition reads them, and no call judges them.
 use mathlib.Core.List.{List}
 use Prim.Native.Nat.{ℕ}
 use lib.ListN.{getD}

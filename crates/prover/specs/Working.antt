@@ -40,6 +40,10 @@ pub record FirstAt (sets : List ℕ) (count w : ℕ) (x : Implications) (from r 
   pub passed : (i : ℕ) → from ≤ i → i < r → T (realizedAt sets count x w i)
   pub found : r < x .count → realizedAt sets count x w r ≡ false
 
+-- The pair that point 2 looks at first: the first world and the first implication.
+abbrev pub firstPair : Pair
+firstPair = record { world = 0; implication = 0 }
+
 -- Every pair before p is realized: worlds in order, and for each the implications.
 pub record Passed (sets : List ℕ) (count : ℕ) (x : Implications) (p : Pair) : Type 0 where
   pub worlds : (w i : ℕ) → w < p .world → i < x .count → T (realizedAt sets count x w i)

@@ -21,23 +21,23 @@ pub fn empty(n: u8) -> Session
 {
     let flats = Flats {
         count: 0,
-        left: [0; 512 * atoms::WORDS],
-        right: [0; 512 * atoms::WORDS],
+        left: [0; ipl::FLATS * atoms::WORDS],
+        right: [0; ipl::FLATS * atoms::WORDS],
     };
     let implications = Implications {
         count: 0,
-        a: [0; 128],
-        b: [0; 128],
-        c: [0; 128],
+        a: [0; ipl::IMPLICATIONS],
+        b: [0; ipl::IMPLICATIONS],
+        c: [0; ipl::IMPLICATIONS],
     };
     let steps = Steps {
         count: 0,
-        numbers: [0; 512],
-        assumed: [0; 512 * atoms::WORDS],
+        numbers: [0; ipl::STEPS],
+        assumed: [0; ipl::STEPS * atoms::WORDS],
     };
     let worlds = Worlds {
         count: 0,
-        sets: [0; 256 * atoms::WORDS],
+        sets: [0; ipl::WORLDS * atoms::WORDS],
     };
     Session {
         n,
@@ -85,7 +85,7 @@ fn with_closing(t: Flats, b: u8, c: u8) -> Flats
     requires { ⌜ ClosingFits t b c ⌝ }
     ensures { λ u. ⌜ ((a : ℕ) → flatsOf u ≡ flatsOf t ++ closings (record { a = a; b = b; c = c })) ⌝ }
 {
-    if b == 255 {
+    if b == ipl::BOTTOM {
         t
     } else {
         with_flat_row(t, AtomSet::single(b), AtomSet::single(c))

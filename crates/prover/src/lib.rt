@@ -14,27 +14,27 @@ pub use range::in_range;
 
 pub struct Flats {
     pub count: usize,
-    pub left: [u64; 512 * atoms::WORDS],
-    pub right: [u64; 512 * atoms::WORDS],
+    pub left: [u64; ipl::FLATS * atoms::WORDS],
+    pub right: [u64; ipl::FLATS * atoms::WORDS],
 }
 
 pub struct Implications {
     pub count: usize,
-    pub a: [u8; 128],
-    pub b: [u8; 128],
-    pub c: [u8; 128],
+    pub a: [u8; ipl::IMPLICATIONS],
+    pub b: [u8; ipl::IMPLICATIONS],
+    pub c: [u8; ipl::IMPLICATIONS],
 }
 
 // Learned steps: an implication's number and the set assumed.
 pub struct Steps {
     pub count: usize,
-    pub numbers: [u8; 512],
-    pub assumed: [u64; 512 * atoms::WORDS],
+    pub numbers: [u8; ipl::STEPS],
+    pub assumed: [u64; ipl::STEPS * atoms::WORDS],
 }
 
 pub struct Worlds {
     pub count: usize,
-    pub sets: [u64; 256 * atoms::WORDS],
+    pub sets: [u64; ipl::WORLDS * atoms::WORDS],
 }
 
 // The last verdict with its goal, until a clause is added.
@@ -78,7 +78,7 @@ pub struct Answered {
 pub fn open(n: u8) -> Changed
     ensures { λ r. ⌜ Opened n r ⌝ }
 {
-    if range::count_in_range(n) {
+    if ipl::count_in_range(n) {
         Changed {
             refusal: 0,
             session: additions::empty(n),

@@ -5,12 +5,13 @@ use super::realization::Pair;
 use super::working;
 use atoms::AtomSet;
 use sat::Answer;
-ghost use Prim.Native.Nat.{ℕ, _*_, _≤_, _<_};
+ghost use Prim.Native.Nat.{ℕ, _≤_, _<_};
 ghost use mathlib.Core.List.{List};
 ghost use Rattle.atoms.specs.Words.{num};
-ghost use Rattle.prover.specs.Search.{Working, Began, Grew, LearnFits, Learned, TurnRight, Fresh, stepIn, Ended};
+ghost use Rattle.prover.specs.Search.{tables, Working, Began, Grew, LearnFits, Learned, TurnRight, Fresh, stepIn, Ended};
 ghost use Rattle.ipl.specs.Lists.{tabulate};
-ghost use Rattle.ipl.specs.Search.{search};
+ghost use Rattle.ipl.specs.Range.{flatTable, stepTable};
+ghost use Rattle.ipl.specs.Search.{mostTurns, search};
 ghost use Rattle.sat.specs.Table.{clauses};
 ghost use Rattle.prover.specs.State.{implicationsOf};
 ghost use Rattle.prover.specs.Working.{Usable};
@@ -24,7 +25,7 @@ pub struct Progress {
     pub pair: Pair,
 }
 
-pub enum Turned {
+enum Turned {
     Valid,
     Refuted,
     Full(u8),
@@ -47,7 +48,7 @@ fn begin<'a>(
     goal: u8,
     p: Progress,
 ) -> Turned
-    requires { ⌜ (p .flats ≤ 512) × (p .steps ≤ 512) × (p .questions < 513 * 258) ⌝ }
+    requires { ⌜ (p .flats ≤ flatTable) × (p .steps ≤ stepTable) × (p .questions < mostTurns) ⌝ }
     ensures { λ r. ⌜ Began (now (left .entry)) (now (right .entry)) (now (sets .entry)) n goal p (now (sets .exit)) r ⌝ }
 {
     match sat::ask(left, right, p.flats + p.steps, n, AtomSet::EMPTY, goal) {
@@ -59,10 +60,7 @@ fn begin<'a>(
                 steps: p.steps,
                 worlds: 1,
                 questions: p.questions + 1,
-                pair: Pair {
-                    world: 0,
-                    implication: 0,
-                },
+                pair: Pair::FIRST,
             })
         }
     }
@@ -70,11 +68,11 @@ fn begin<'a>(
 
 // Point 3: one world more.
 fn grow(sets: &mut [u64], p: Progress, pair: Pair, m: AtomSet) -> Turned
-    requires { ⌜ p .questions < 513 * 258 ⌝ }
+    requires { ⌜ p .questions < mostTurns ⌝ }
     ensures { λ r. ⌜ Grew (now (sets .entry)) p pair (num m) (now (sets .exit)) r ⌝ }
 {
     let at = p.worlds;
-    if 256 <= at {
+    if ipl::WORLDS <= at {
         return Turned::Full(11);
     }
     atoms::set_row(sets, at, m);
@@ -99,13 +97,13 @@ fn learn(
     given: AtomSet,
     p: Progress,
 ) -> Turned
-    requires { ⌜ LearnFits n x i (now numbers) p ⌝ }
+    requires { ⌜ LearnFits n i (now numbers) p ⌝ }
     ensures { λ r. ⌜ ((sets : List ℕ) → Learned n x i (num given)
-        (record { left = now (left .entry); right = now (right .entry); numbers = now (numbers .entry); assumed = now (assumed .entry); sets = sets }) p
-        (record { left = now (left .exit); right = now (right .exit); numbers = now (numbers .exit); assumed = now (assumed .exit); sets = sets }) r) ⌝ }
+        (tables (now (left .entry)) (now (right .entry)) (now (numbers .entry)) (now (assumed .entry)) sets) p
+        (tables (now (left .exit)) (now (right .exit)) (now (numbers .exit)) (now (assumed .exit)) sets) r) ⌝ }
 {
     let at = p.steps;
-    if 512 <= at {
+    if ipl::STEPS <= at {
         return Turned::Full(12);
     }
     let rows = p.flats + at;
@@ -118,10 +116,7 @@ fn learn(
         steps: at + 1,
         worlds: 0,
         questions: p.questions + 1,
-        pair: Pair {
-            world: 0,
-            implication: 0,
-        },
+        pair: Pair::FIRST,
     })
 }
 
@@ -137,10 +132,10 @@ fn turn(
     x: Implications,
     p: Progress,
 ) -> Turned
-    requires { ⌜ Usable n x × Working x (record { left = now left; right = now right; numbers = now numbers; assumed = now assumed; sets = now sets }) p × (p .questions < 513 * 258) ⌝ }
+    requires { ⌜ Usable n x × Working x (tables (now left) (now right) (now numbers) (now assumed) (now sets)) p × (p .questions < mostTurns) ⌝ }
     ensures { λ r. ⌜ TurnRight n goal x
-        (record { left = now (left .entry); right = now (right .entry); numbers = now (numbers .entry); assumed = now (assumed .entry); sets = now (sets .entry) }) p
-        (record { left = now (left .exit); right = now (right .exit); numbers = now (numbers .exit); assumed = now (assumed .exit); sets = now (sets .exit) }) r ⌝ }
+        (tables (now (left .entry)) (now (right .entry)) (now (numbers .entry)) (now (assumed .entry)) (now (sets .entry))) p
+        (tables (now (left .exit)) (now (right .exit)) (now (numbers .exit)) (now (assumed .exit)) (now (sets .exit))) r ⌝ }
 {
     let worlds = p.worlds;
     if worlds == 0 {
@@ -171,10 +166,11 @@ pub fn proceed(
     x: Implications,
     start: Progress,
 ) -> End
-    requires { ⌜ Usable n x × Fresh x (record { left = now left; right = now right; numbers = now numbers; assumed = now assumed; sets = now sets }) start ⌝ }
+    requires { ⌜ Usable n x × Fresh x (tables (now left) (now right) (now numbers) (now assumed) (now sets)) start ⌝ }
     ensures { λ r. ⌜ Ended
-        (search n (clauses (now (left .entry)) (now (right .entry)) (start .flats)) (implicationsOf x) goal (tabulate (stepIn (now (numbers .entry)) (now (assumed .entry))) (start .steps)))
-        (record { left = now (left .exit); right = now (right .exit); numbers = now (numbers .exit); assumed = now (assumed .exit); sets = now (sets .exit) }) r ⌝ }
+        (search n (clauses (now (left .entry)) (now (right .entry)) (start .flats)) (implicationsOf x) goal
+        (tabulate (stepIn (now (numbers .entry)) (now (assumed .entry))) (start .steps)))
+        (tables (now (left .exit)) (now (right .exit)) (now (numbers .exit)) (now (assumed .exit)) (now (sets .exit))) r ⌝ }
 {
     let mut p = start;
     loop {

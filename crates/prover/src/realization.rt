@@ -3,8 +3,7 @@ use super::Implications;
 use atoms::AtomSet;
 ghost use mathlib.Core.Bool.{false};
 ghost use mathlib.Core.Path.{_≡_};
-ghost use Prim.Native.Nat.{_≤_, _<_};
-ghost use lib.ListN.{length};
+ghost use Prim.Native.Nat.{ℕ, _≤_, _<_};
 ghost use Rattle.atoms.specs.Sets.{limit, has};
 ghost use Rattle.atoms.specs.Words.{num, rowOf};
 ghost use Rattle.ipl.specs.Lists.{any, tabulate};
@@ -13,9 +12,9 @@ ghost use Rattle.ipl.specs.Range.{implicationTable};
 ghost use Rattle.prover.specs.Working.{FirstAtoms, FirstAt, NextPair};
 
 // u strictly includes m, has a and lacks b. Where m lacks a, one test says it all.
-fn is_beyond(m: AtomSet, u: AtomSet, a: u8, b: u8, c: u8) -> bool
+fn is_beyond(m: AtomSet, u: AtomSet, a: u8, b: u8) -> bool
     requires { ⌜ (a < limit) × (has (num m) a ≡ false) ⌝ }
-    ensures { λ r. ⌜ r ≡ beyond (record { a = a; b = b; c = c }) (num m) (num u) ⌝ }
+    ensures { λ r. ⌜ ((c : ℕ) → r ≡ beyond (record { a = a; b = b; c = c }) (num m) (num u)) ⌝ }
 {
     u.bounded();
     let wanted = m.join(AtomSet::single(a));
@@ -24,14 +23,14 @@ fn is_beyond(m: AtomSet, u: AtomSet, a: u8, b: u8, c: u8) -> bool
 }
 
 // Some of the first `count` worlds is beyond m; most often a late one is.
-fn any_beyond(sets: &[u64], count: usize, m: AtomSet, a: u8, b: u8, c: u8) -> bool
+fn any_beyond(sets: &[u64], count: usize, m: AtomSet, a: u8, b: u8) -> bool
     requires { ⌜ (a < limit) × (has (num m) a ≡ false) ⌝ }
-    ensures { λ r. ⌜ r ≡ any (beyond (record { a = a; b = b; c = c }) (num m)) (tabulate (rowOf (now (sets .entry))) count) ⌝ }
+    ensures { λ r. ⌜ ((c : ℕ) → r ≡ any (beyond (record { a = a; b = b; c = c }) (num m)) (tabulate (rowOf (now (sets .entry))) count)) ⌝ }
 {
     let mut i = count;
     while 0 < i {
         i -= 1;
-        if is_beyond(m, atoms::row(sets, i), a, b, c) {
+        if is_beyond(m, atoms::row(sets, i), a, b) {
             return true;
         }
     }
@@ -50,7 +49,7 @@ fn realized(sets: &[u64], count: usize, m: AtomSet, a: u8, b: u8, c: u8) -> bool
     if own.meets(m) {
         return true;
     }
-    any_beyond(sets, count, m, a, b, c)
+    any_beyond(sets, count, m, a, b)
 }
 
 // The first implication from `from` on that world number w does not realize, or the number of implications.
@@ -73,6 +72,13 @@ fn first_at(sets: &[u64], count: usize, w: usize, x: Implications, from: usize) 
 pub struct Pair {
     pub world: usize,
     pub implication: usize,
+}
+
+impl Pair {
+    pub const FIRST: Pair = Pair {
+        world: 0,
+        implication: 0,
+    };
 }
 
 // The first pair from p on that is not realized; past the last world where there is none.

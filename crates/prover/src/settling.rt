@@ -11,33 +11,43 @@ use super::question::Progress;
 use super::realization::Pair;
 use super::working;
 ghost use mathlib.Core.Path.{_≡_};
-ghost use Prim.Native.Nat.{_*_, _≤_};
-ghost use Rattle.ipl.specs.Search.{State};
+ghost use Prim.Native.Nat.{_≤_};
+ghost use Rattle.ipl.specs.Search.{mostTurns};
 ghost use Rattle.prover.specs.State.{stepsOf, worldsOf};
-ghost use Rattle.prover.specs.Calls.{goalNumber, totalAfter, Answer, AskedAs};
-ghost use Rattle.prover.specs.Search.{Ended};
-ghost use Rattle.prover.specs.Settling.{whole, Prepared, Concluding};
+ghost use Rattle.prover.specs.Calls.{goalNumber, totalAfter, AskedAs};
+ghost use Rattle.prover.specs.Search.{tables, Ended};
+ghost use Rattle.prover.specs.Settling.{whole, Prepared, Concluded, Concluding};
+
+// Where the total of questions stays.
+const MOST_TOTAL: u32 = 4294967295;
 
 fn total_after(total: u32, questions: usize) -> u32
-    requires { ⌜ questions ≤ 513 * 258 ⌝ }
+    requires { ⌜ questions ≤ mostTurns ⌝ }
     ensures { λ r. ⌜ r ≡ totalAfter total questions ⌝ }
 {
     let sum = total as usize + questions;
-    if 4294967295 <= sum {
-        4294967295
+    if MOST_TOTAL as usize <= sum {
+        MOST_TOTAL
     } else {
         sum as u32
     }
 }
 
-// The session s with an answer.
-fn with_answer(s: Session, steps: Steps, worlds: Worlds, questions: usize, held: Held) -> Session
-    requires { ⌜ questions ≤ 513 * 258 ⌝ }
-    ensures { λ r. ⌜ Answer s (record { steps = stepsOf steps; worlds = worldsOf worlds; questions = questions }) held r ⌝ }
+// The answer with a verdict, held in the session s with these steps and worlds.
+fn with_verdict(
+    s: Session,
+    verdict: Verdict,
+    held: Held,
+    steps: Steps,
+    worlds: Worlds,
+    questions: usize,
+) -> Answered
+    requires { ⌜ questions ≤ mostTurns ⌝ }
+    ensures { λ r. ⌜ Concluded s (record { steps = stepsOf steps; worlds = worldsOf worlds; questions = questions }) verdict held r ⌝ }
 {
     let flats = s.flats;
     let implications = s.implications;
-    Session {
+    let session = Session {
         n: s.n,
         flats,
         implications,
@@ -45,7 +55,8 @@ fn with_answer(s: Session, steps: Steps, worlds: Worlds, questions: usize, held:
         worlds,
         total: total_after(s.total, questions),
         held,
-    }
+    };
+    Answered { verdict, session }
 }
 
 // The search over the session's clauses, in the working tables.
@@ -58,8 +69,9 @@ fn decide(
     s: Session,
     goal: u8,
 ) -> End
-    requires { ⌜ Prepared s goal (record { left = now left; right = now right; numbers = now numbers; assumed = now assumed; sets = now sets }) ⌝ }
-    ensures { λ r. ⌜ Ended (whole s goal) (record { left = now (left .exit); right = now (right .exit); numbers = now (numbers .exit); assumed = now (assumed .exit); sets = now (sets .exit) }) r ⌝ }
+    requires { ⌜ Prepared s goal (tables (now left) (now right) (now numbers) (now assumed) (now sets)) ⌝ }
+    ensures { λ r. ⌜ Ended (whole s goal)
+        (tables (now (left .exit)) (now (right .exit)) (now (numbers .exit)) (now (assumed .exit)) (now (sets .exit))) r ⌝ }
 {
     let flats = s.flats;
     let steps = s.steps;
@@ -70,10 +82,7 @@ fn decide(
         steps: steps.count,
         worlds: 0,
         questions: 0,
-        pair: Pair {
-            world: 0,
-            implication: 0,
-        },
+        pair: Pair::FIRST,
     };
     question::proceed(left, right, numbers, assumed, sets, s.n, goal, x, start)
 }
@@ -93,20 +102,15 @@ fn conclude(s: Session, goal: u8, end: End, steps: Steps, worlds: Worlds) -> Ans
         End::Valid(p) => {
             learned.count = p.steps;
             shown.count = 0;
-            let held = Held::Valid(goal);
-            Answered {
-                verdict: Verdict::Valid(p.steps),
-                session: with_answer(s, learned, shown, p.questions + 1, held),
-            }
+            let verdict = Verdict::Valid(p.steps);
+            let questions = p.questions + 1;
+            with_verdict(s, verdict, Held::Valid(goal), learned, shown, questions)
         }
         End::Refuted(p) => {
             learned.count = p.steps;
             shown.count = p.worlds;
-            let held = Held::Refuted(goal);
-            Answered {
-                verdict: Verdict::Refuted(p.worlds),
-                session: with_answer(s, learned, shown, p.questions, held),
-            }
+            let verdict = Verdict::Refuted(p.worlds);
+            with_verdict(s, verdict, Held::Refuted(goal), learned, shown, p.questions)
         }
     }
 }
@@ -118,8 +122,8 @@ pub fn settle(s: Session, goal: u8) -> Answered
 {
     let steps = s.steps;
     let worlds = s.worlds;
-    let mut left = [0; 1024 * atoms::WORDS];
-    let mut right = [0; 1024 * atoms::WORDS];
+    let mut left = [0; ipl::KNOWN * atoms::WORDS];
+    let mut right = [0; ipl::KNOWN * atoms::WORDS];
     let mut numbers = steps.numbers;
     let mut assumed = steps.assumed;
     let mut sets = worlds.sets;

@@ -24,8 +24,8 @@ use Rattle.clausify.specs.Additions.{Unrefused}
 use Rattle.clausify.proofs.TextBook.{text-unrefused}
 use Rattle.certificate.specs.Format as format
 use Rattle.certificate.specs.Written.{claimOfVerdict}
-use Rattle.report.specs.Text.{ascii, decimalWithin, decimal}
-use Rattle.report.specs.Report.{figures, stepLine, worldLine, refusal, validReport, refutedReport}
+use Rattle.text.specs.Text.{ascii, decimalWithin, decimal, refusal}
+use Rattle.report.specs.Report.{figures, stepLine, worldLine, validReport, refutedReport}
 use Rattle.report.specs.Printed.{printedEnd, printedAs, printed, sheetBytes, sheetAs, sheet}
 use Rattle.report.specs.Cases.{Passes, Holds, tildes, cases}
 
@@ -39,12 +39,12 @@ unfolding ascii decimalWithin decimal figures stepLine worldLine refusal validRe
     reader.finish reader.readToken reader.result reader.reading sameLeaf leafAt withLeaf withCompound withTree nodes named
     naming.letterCount naming.atomsFrom naming.atomsOf naming.setOf naming.clause naming.partCalls naming.callsFrom calls
     atomCount naming.textBook naming.goalOf book.countInRange book.opened book.flatsFull book.flatRefusal
-    book.implicationRefusal book.answer book.numberOf book.refusal book.stepsAfter book.taken book.next book.after
+    book.implicationRefusal book.goalRefusal book.answer book.numberOf book.refusal book.stepsAfter book.taken book.next book.after
     fixed.clauseOf fixed.known fixed.firstAt fixed.firstUnrealized fixed.isNone fixed.dropOne fixed.dropFrom fixed.begin
     fixed.stepAt fixed.resolve fixed.look fixed.goOn fixed.turnWith fixed.turn fixed.run fixed.search counters least ask
     orElse atomOrBot setInRange flatInRange implicationInRange one satisfies closing closings beyond realizes learned all
     any bitAt has minus within meets limit digits format.each format.flatRow format.implicationRow format.stepRow
-    format.worldRow format.claimRows format.refutes format.rowCount format.entryRow format.contents format.bodies
+    format.worldRow format.claimRows format.refutes format.rowsOf format.entryRow format.contents format.bodies
     format.encode claimOfVerdict
 ten-cases =
     let t = reader.negated 63 (letter 15) in

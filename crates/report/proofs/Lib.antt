@@ -1,6 +1,6 @@
 -- Laws of the printed report, and the theorems.
-pub mod Appending
-pub mod Decimal
+pub mod Rows
 pub mod Printed
 pub mod Fitting
+pub mod Sheets
 pub mod Cases

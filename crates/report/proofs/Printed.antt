@@ -1,7 +1,6 @@
--- What the code prints is what the definitions print, from the text's bytes; and the same of a sheet.
-use mathlib.Core.Bool.{Bool, true, false}
+-- What the code prints is what the definitions print, from the text's bytes.
 use mathlib.Core.List.{List}
-use mathlib.Core.Path.{_≡_, refl, sym, ap, ap₂, _∙_, subst}
+use mathlib.Core.Path.{_≡_, sym, ap, ap₂, _∙_, subst}
 use Prim.Native.Nat.{ℕ}
 use lib.ListN.{length}
 use Rattle.ipl.specs.Search.{Outcome, valid, refuted, refused, unfinished}
@@ -20,13 +19,7 @@ use Rattle.clausify.specs.Naming.{textBook, goalOf}
 use Rattle.clausify.specs.Calls.{Holds, SettledAs}
 use Rattle.clausify.specs.declared.Settled.{Settled}
 use Rattle.clausify.proofs.TextBook.{text-reached}
-use Rattle.certificate.specs.Judge as certificate
-use Rattle.certificate.specs.Format.{claimStart}
-use Rattle.certificate.specs.Layout.{claimIn}
-use Rattle.certificate.specs.Checked.{judgementOf}
-use Rattle.certificate.specs.declared.Checked.{Checked}
-use Rattle.certificate.specs.declared.Checked.the-variants as checked
-use Rattle.report.specs.Report.{validReport, refutedReport, reportBy, reportOf, acceptedLine, acceptedClaim, checkReport, checkReportOf}
+use Rattle.report.specs.Report.{validReport, refutedReport, reportBy, reportOf}
 use Rattle.report.specs.Printed.{printedEnd, printedAs, printed}
 
 module _ (t : Tree) (r : Settled) (u : Session) (holds : Holds t u (r .goal)) where
@@ -37,16 +30,16 @@ module _ (t : Tree) (r : Settled) (u : Session) (holds : Holds t u (r .goal)) wh
   unfolding printedEnd
   by-outcome (valid end) a =
       let kept = a .1 .holds in
-      ap (λ (v : Verdict). reportBy v (r .session)) (a .0)
+      ap (λ (v : Verdict). reportBy v (r .session)) (a .0 .verdict)
       ∙ ap (λ (k : Book). validReport (k .n) (r .session .total) (k .steps)) kept
       ∙ ap (λ (q : ℕ). validReport (u .n) q (end .steps)) (a .1 .total ∙ ap (λ (q : ℕ). totalAfter q (end .questions)) (holds .nothing .same-total))
   by-outcome (refuted end) a =
       let kept = a .1 .holds in
-      ap (λ (v : Verdict). reportBy v (r .session)) (a .0)
-      ∙ ap₂ (λ (k : Book) (W : List ℕ). refutedReport (k .n) (r .session .total) (length (k .steps)) W) kept (a .1 .shows)
+      ap (λ (v : Verdict). reportBy v (r .session)) (a .0 .verdict)
+      ∙ ap₂ (λ (k : Book) (W : List ℕ). refutedReport (k .n) (r .session .total) (length (k .steps)) W) kept (a .0 .shows)
       ∙ ap (λ (q : ℕ). refutedReport (u .n) q (length (end .steps)) (end .worlds)) (a .1 .total ∙ ap (λ (q : ℕ). totalAfter q (end .questions)) (holds .nothing .same-total))
   by-outcome (refused number) a = ap (λ (v : Verdict). reportBy v (r .session)) (a .0)
-  by-outcome unfinished a = absurd a
+  by-outcome unfinished a = absurd (a .0)
 
   answer-printed : Asked u (r .goal) answered → reportOf r ≡ printedEnd (textBook t .n) (answer (textBook t) (goalOf t))
   answer-printed a =
@@ -62,16 +55,3 @@ report-printed s r = by-judgement (judge s)
     by-judgement : (j : Judgement) → SettledAs j r → reportOf r ≡ printedAs j
     by-judgement (judgement.refused number place) h = ap (λ (v : Verdict). reportBy v (r .session)) (h .0)
     by-judgement (judgement.accepted t) h = answer-printed t r (h .0) (h .1) (h .2)
-
-claim-line : (s : List ℕ) (at : ℕ) (refuting : Bool) (rows : ℕ) → acceptedLine refuting ≡ acceptedClaim (claimIn s at refuting rows)
-unfolding claimIn
-claim-line s at true rows = refl
-claim-line s at false rows = refl
-
--- The checker's.
-pub check-report-printed : (s : List ℕ) (k : Checked) → judgementOf s k ≡ certificate.judge s → checkReportOf k ≡ checkReport (certificate.judge s)
-check-report-printed s k e = of-value k ∙ ap checkReport e
-  where
-    of-value : (k : Checked) → checkReportOf k ≡ checkReport (judgementOf s k)
-    of-value (checked.Accepted k) = claim-line s (claimStart (k .flats) (k .implications)) (k .refuting) (k .rows)
-    of-value (checked.Refused number place) = refl

@@ -9,7 +9,7 @@ use Rattle.syntax.specs.Nodes.{nodes}
 use Rattle.syntax.specs.Judge.{Judgement, refused, accepted, judge}
 use Rattle.clausify.specs.Naming.{atomCount, calls}
 use Rattle.clausify.specs.Additions.{Unrefused}
-use Rattle.report.specs.Text.{ascii}
+use Rattle.text.specs.Text.{ascii}
 use Rattle.report.specs.Printed.{printed, sheet}
 
 -- The whole output; the sheet's length; or that the text passes the reader and the naming, with so many atoms.

@@ -1,8 +1,6 @@
 -- The lines of the report (document 01: "prints the verdict; then atoms, questions and learned steps; then steps or worlds").
-use mathlib.Core.Bool.{Bool, true, false}
 use mathlib.Core.List.{List, _++_}
 use Prim.Native.Nat.{ℕ}
-use Prim.Native.String.{String}
 use lib.Dec.{eqb}
 use lib.ListN.{length}
 use Rattle.ipl.specs.Search.{Step}
@@ -11,16 +9,8 @@ use Rattle.prover.specs.declared.Session.{Session}
 use Rattle.prover.specs.declared.Verdict.{Verdict}
 use Rattle.prover.specs.declared.Verdict.the-variants.{Valid, Refuted, Refused}
 use Rattle.clausify.specs.declared.Settled.{Settled}
-use Rattle.certificate.specs.Certificate as certificate
-use Rattle.certificate.specs.Certificate.{Claim, Judgement}
 use Rattle.certificate.specs.Format.{each}
-use Rattle.certificate.specs.declared.Checked.{Checked}
-use Rattle.certificate.specs.declared.Checked.the-variants as checked
-use Rattle.report.specs.Text.{ascii, decimal}
-
--- A number after a label.
-abbrev pub labelled : String → ℕ → List ℕ
-labelled label x = ascii label ++ decimal x
+use Rattle.text.specs.Text.{ascii, labelled, refusal}
 
 -- "Atoms, questions and learned steps."
 unfoldable pub figures : ℕ → ℕ → ℕ → List ℕ
@@ -33,11 +23,6 @@ stepLine s = labelled "step " (s .number) ++ labelled " " (s .assumed) ++ ascii 
 -- "A world is a line `world 25`."
 unfoldable pub worldLine : ℕ → List ℕ
 worldLine w = labelled "world " w ++ ascii "\n"
-
--- "Refused: `refused 3 at 2`, and for every other number, as `refused 1`, no place."
-unfoldable pub refusal : Bool → ℕ → ℕ → List ℕ
-refusal true number place = labelled "refused " number ++ labelled " at " place ++ ascii "\n"
-refusal false number place = labelled "refused " number ++ ascii "\n"
 
 -- The refusal of a text has a place where its number is 3.
 abbrev pub textRefusal : ℕ → ℕ → List ℕ
@@ -57,27 +42,3 @@ reportBy (Refused number place) s = textRefusal number place
 
 abbrev pub reportOf : Settled → List ℕ
 reportOf r = reportBy (r .verdict) (r .session)
-
--- ---- sheets
-
--- The refusal of a sheet has a place where its number is 16.
-abbrev pub sheetRefusal : ℕ → ℕ → List ℕ
-sheetRefusal number place = refusal (eqb number 16) number place
-
--- An accepted sheet, by whether it holds worlds.
-unfoldable pub acceptedLine : Bool → List ℕ
-acceptedLine true = ascii "accepted refuted\n"
-acceptedLine false = ascii "accepted valid\n"
-
-abbrev pub acceptedClaim : Claim → List ℕ
-acceptedClaim (certificate.valid S) = acceptedLine false
-acceptedClaim (certificate.refuted W) = acceptedLine true
-
--- The report of a judgement of bytes, and of the value that stands for it.
-abbrev pub checkReport : Judgement → List ℕ
-checkReport (certificate.accepted p c) = acceptedClaim c
-checkReport (certificate.refused number place) = sheetRefusal number place
-
-abbrev pub checkReportOf : Checked → List ℕ
-checkReportOf (checked.Accepted k) = acceptedLine (k .refuting)
-checkReportOf (checked.Refused number place) = sheetRefusal number place

@@ -1,5 +1,4 @@
 // The lines of a report.
-use super::append;
 use atoms::AtomSet;
 use prover::Steps;
 use prover::Worlds;
@@ -7,32 +6,32 @@ ghost use mathlib.Core.Path.{_≡_};
 ghost use Rattle.atoms.specs.Words.{num};
 ghost use Rattle.prover.specs.State.{byteAt, stepsOf, worldsOf};
 ghost use Rattle.certificate.specs.Format.{each};
-ghost use Rattle.report.specs.Report.{figures, stepLine, worldLine, refusal};
-ghost use Rattle.report.specs.Output.{Appends};
+ghost use Rattle.report.specs.Report.{figures, stepLine, worldLine};
+ghost use Rattle.text.specs.Output.{Appends};
 
 // Atoms, questions and learned steps.
-pub fn figures(text: &mut [u8], at: usize, n: u8, questions: u32, learned: usize) -> usize
-    ensures { λ r. ⌜ Appends (figures n questions learned) (now (text .entry)) at (now (text .exit)) r ⌝ }
+pub fn figures(draft: &mut [u8], at: usize, n: u8, questions: u32, learned: usize) -> usize
+    ensures { λ r. ⌜ Appends (figures n questions learned) (now (draft .entry)) at (now (draft .exit)) r ⌝ }
 {
-    let a = append::figure(text, at, b"atoms ", n as u64);
-    let b = append::figure(text, a, b" questions ", questions as u64);
-    let c = append::figure(text, b, b" learned ", learned as u64);
-    append::word(text, c, b"\n")
+    let a = text::figure(draft, at, b"atoms ", n as u64);
+    let b = text::figure(draft, a, b" questions ", questions as u64);
+    let c = text::figure(draft, b, b" learned ", learned as u64);
+    text::word(draft, c, b"\n")
 }
 
-fn step(text: &mut [u8], at: usize, number: u8, assumed: AtomSet) -> usize
-    ensures { λ r. ⌜ Appends (stepLine (record { number = number; assumed = num assumed })) (now (text .entry)) at (now (text .exit)) r ⌝ }
+fn step(draft: &mut [u8], at: usize, number: u8, assumed: AtomSet) -> usize
+    ensures { λ r. ⌜ Appends (stepLine (record { number = number; assumed = num assumed })) (now (draft .entry)) at (now (draft .exit)) r ⌝ }
 {
-    let a = append::figure(text, at, b"step ", number as u64);
-    let b = append::labelled(text, a, b" ", assumed);
-    append::word(text, b, b"\n")
+    let a = text::figure(draft, at, b"step ", number as u64);
+    let b = text::labelled(draft, a, b" ", assumed);
+    text::word(draft, b, b"\n")
 }
 
-fn world(text: &mut [u8], at: usize, set: AtomSet) -> usize
-    ensures { λ r. ⌜ Appends (worldLine (num set)) (now (text .entry)) at (now (text .exit)) r ⌝ }
+fn world(draft: &mut [u8], at: usize, set: AtomSet) -> usize
+    ensures { λ r. ⌜ Appends (worldLine (num set)) (now (draft .entry)) at (now (draft .exit)) r ⌝ }
 {
-    let end = append::labelled(text, at, b"world ", set);
-    append::word(text, end, b"\n")
+    let end = text::labelled(draft, at, b"world ", set);
+    text::word(draft, end, b"\n")
 }
 
 // Past the table's end 0.
@@ -42,19 +41,19 @@ fn byte_at(table: &[u8], i: usize) -> u8
     if i < table.len() { table[i] } else { 0 }
 }
 
-// A line for each step; none once the buffer is full.
-pub fn steps(text: &mut [u8], at: usize, table: Steps) -> usize
-    ensures { λ r. ⌜ Appends (each stepLine (stepsOf table)) (now (text .entry)) at (now (text .exit)) r ⌝ }
+// A line for each step; none once the draft is full.
+pub fn steps(draft: &mut [u8], at: usize, table: Steps) -> usize
+    ensures { λ r. ⌜ Appends (each stepLine (stepsOf table)) (now (draft .entry)) at (now (draft .exit)) r ⌝ }
 {
     let count = table.count;
     let mut end = at;
     let mut i = 0;
     while i < count {
-        if text.len() <= end {
+        if draft.len() <= end {
             return end;
         }
         end = step(
-            text,
+            draft,
             end,
             byte_at(&table.numbers, i),
             atoms::row(&table.assumed, i),
@@ -64,31 +63,19 @@ pub fn steps(text: &mut [u8], at: usize, table: Steps) -> usize
     end
 }
 
-// A line for each world; none once the buffer is full.
-pub fn worlds(text: &mut [u8], at: usize, table: Worlds) -> usize
-    ensures { λ r. ⌜ Appends (each worldLine (worldsOf table)) (now (text .entry)) at (now (text .exit)) r ⌝ }
+// A line for each world; none once the draft is full.
+pub fn worlds(draft: &mut [u8], at: usize, table: Worlds) -> usize
+    ensures { λ r. ⌜ Appends (each worldLine (worldsOf table)) (now (draft .entry)) at (now (draft .exit)) r ⌝ }
 {
     let count = table.count;
     let mut end = at;
     let mut i = 0;
     while i < count {
-        if text.len() <= end {
+        if draft.len() <= end {
             return end;
         }
-        end = world(text, end, atoms::row(&table.sets, i));
+        end = world(draft, end, atoms::row(&table.sets, i));
         i += 1;
     }
     end
-}
-
-// A refusal at the buffer's beginning, with its place or without.
-pub fn refusal(text: &mut [u8], number: u8, place: usize, placed: bool) -> usize
-    ensures { λ r. ⌜ Appends (refusal placed number place) (now (text .entry)) 0 (now (text .exit)) r ⌝ }
-{
-    let a = append::figure(text, 0, b"refused ", number as u64);
-    if placed {
-        let b = append::figure(text, a, b" at ", place as u64);
-        return append::word(text, b, b"\n");
-    }
-    append::word(text, a, b"\n")
 }

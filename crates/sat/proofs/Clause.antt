@@ -17,7 +17,7 @@ use Rattle.sat.specs.declared.Partial.{Partial}
 use Rattle.sat.proofs.Table.{union-bits, minus-bits}
 
 -- A set that is its highest atom has no other.
-pub only : (s : ℕ) → Highest s s → (i k : ℕ) → bitAt s i ≡ 1 → bitAt s k ≡ 1 → i ≡ k
+only : (s : ℕ) → Highest s s → (i k : ℕ) → bitAt s i ≡ 1 → bitAt s k ≡ 1 → i ≡ k
 only s h i k p q = sym (is i p) ∙ is k q
   where
     is : (i : ℕ) → bitAt s i ≡ 1 → h .atom ≡ i
@@ -48,7 +48,7 @@ module _ (l r y x a b : ℕ) (ea : a ≡ minus l y) (eb : b ≡ minus r x) where
   conflict za zb m h c = none-right zb m h (c (all-left za m h))
 
   -- One atom is open on the right and none on the left: it is in every model.
-  pub force-has : a ≡ 0 → Highest b b → b < 2 ^ limit → (y2 : ℕ) → y2 ≡ union y b → Proper y x → Grown (Holds l r) y x y2 x
+  force-has : a ≡ 0 → Highest b b → b < 2 ^ limit → (y2 : ℕ) → y2 ≡ union y b → Proper y x → Grown (Holds l r) y x y2 x
   force-has za top lb y2 ey f = record {
     more-has = λ i. omega (arith, hy i);
     more-lacks = λ i. le-refl _;
@@ -72,7 +72,7 @@ module _ (l r y x a b : ℕ) (ea : a ≡ minus l y) (eb : b ≡ minus r x) where
       ]
 
   -- One atom is open on the left and none on the right: it is in no model.
-  pub force-lacks : b ≡ 0 → Highest a a → a < 2 ^ limit → (x2 : ℕ) → x2 ≡ union x a → Proper y x → Grown (Holds l r) y x y x2
+  force-lacks : b ≡ 0 → Highest a a → a < 2 ^ limit → (x2 : ℕ) → x2 ≡ union x a → Proper y x → Grown (Holds l r) y x y x2
   force-lacks zb top la x2 ex f = record {
     more-has = λ i. le-refl _;
     more-lacks = λ i. omega (arith, hx i);

@@ -142,7 +142,9 @@ module _ (P : ℕ → Type 0) (b d p q : Partial) (t : ℕ) (n : Node P b d p) (
     pub false-node : Node P b d0 q0
     false-node = record {
       fair = record {
-        apart = λ i. omega (arith, q0-has i, joined-apart _ _ t (c .pick) (num (q .lacks)) (num (q0 .lacks)) (eq .lacks-is) (num (q .has)) (c .pick .open-has) (λ j. omega (arith, c .grown .proper .apart j)) i);
+        apart = λ i.
+            let apart = joined-apart _ _ t (c .pick) (num (q .lacks)) (num (q0 .lacks)) (eq .lacks-is) (num (q .has)) (c .pick .open-has) (λ j. omega (arith, c .grown .proper .apart j)) i in
+            omega (arith, q0-has i);
         has-below = subst (λ (z : ℕ). z < 2 ^ limit) (sym (eq .has-is)) (c .grown .proper .has-below);
         lacks-below = joined-below _ _ t (c .pick) (num (q .lacks)) (num (q0 .lacks)) (eq .lacks-is) (c .grown .proper .lacks-below);
       };
@@ -321,6 +323,7 @@ module _ (P : ℕ → Type 0) (b d p q : Partial) (t : ℕ) (n : Node P b d p) (
         })
         | yes z ↦ fs m l h fb (record {
           includes = by-atom _ _ t (c .pick) (λ i. bitAt (num (s .has)) i ≤ bitAt m i) (omega (arith, bit-le (num (s .has)) (c .pick .atom))) (λ i o. omega (arith, v-has i, fv .includes i));
-          avoids = by-atom _ _ t (c .pick) (λ i. bitAt (num (s .lacks)) i + bitAt m i ≤ 1) (omega (arith, s-lacks (c .pick .atom), decided-lacks, bit-le m (c .pick .atom))) (λ i o. omega (arith, v-lacks i, fv .avoids i));
+          avoids = by-atom _ _ t (c .pick) (λ i. bitAt (num (s .lacks)) i + bitAt m i ≤ 1) (omega (arith, s-lacks (c .pick .atom), decided-lacks, bit-le m (c .pick .atom)))
+              (λ i o. omega (arith, v-lacks i, fv .avoids i));
         })
       ]

@@ -42,7 +42,10 @@ room n a b t p q e = omega arith
 pub room-falls : (y x y2 x2 : ℕ) → Proper y x → Within y y2 → Within x x2 → eqb y2 y && eqb x2 x ≡ false → 2 ^ suc limit - (y2 + x2) < 2 ^ suc limit - (y + x)
 room-falls y x y2 x2 f p q e = elim (decLt (y + x) (y2 + x2)) [
   | yes k ↦ omega (arith, proper-room y x f)
-  | no k ↦ absurd (false-T e (T-and (eqb y2 y) (eqb x2 x) (true-T (eq-eqb y2 y (omega (arith, bits-le y y2 p, bits-le x x2 q)))) (true-T (eq-eqb x2 x (omega (arith, bits-le y y2 p, bits-le x x2 q))))))
+  | no k ↦
+      let hy = bits-le y y2 p in
+      let hx = bits-le x x2 q in
+      absurd (false-T e (T-and (eqb y2 y) (eqb x2 x) (true-T (eq-eqb y2 y (omega arith))) (true-T (eq-eqb x2 x (omega arith)))))
 ]
 
 pub room-kept : (y x y2 x2 : ℕ) → Within y y2 → Within x x2 → 2 ^ suc limit - (y2 + x2) ≤ 2 ^ suc limit - (y + x)
@@ -57,7 +60,10 @@ both-fit p q r e m f g = record {
 }
 
 pub forget-part : (p r : Partial) (x : ℕ) → PartialIs r (minus (num (p .has)) x) (minus (num (p .lacks)) x) → Part r p
-forget-part p r x e = record { has-part = λ i. omega (arith, minus-bits (num (p .has)) x (num (r .has)) (e .has-is) i); lacks-part = λ i. omega (arith, minus-bits (num (p .lacks)) x (num (r .lacks)) (e .lacks-is) i) }
+forget-part p r x e = record {
+  has-part = λ i. omega (arith, minus-bits (num (p .has)) x (num (r .has)) (e .has-is) i);
+  lacks-part = λ i. omega (arith, minus-bits (num (p .lacks)) x (num (r .lacks)) (e .lacks-is) i);
+}
 
 pub part-refl : (p : Partial) → Part p p
 part-refl p = record { has-part = λ i. le-refl _; lacks-part = λ i. le-refl _ }

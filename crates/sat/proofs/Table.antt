@@ -33,7 +33,7 @@ minus-bits a b r e i = ap (λ (z : ℕ). bitAt z i) e ∙ bit-minus a b i
 pub meets-Meets : (a b : ℕ) → T (meets a b) → Meets a b
 meets-Meets a b t = let r = meets-has a b t in (r .0, has-bit a (r .0) (r .1), has-bit b (r .0) (r .2))
 
-pub Meets-meets : (a b : ℕ) → Meets a b → T (meets a b)
+Meets-meets : (a b : ℕ) → Meets a b → T (meets a b)
 Meets-meets a b r = has-meets a b (r .0) (bit-has a (r .0) (r .1)) (bit-has b (r .0) (r .2))
 
 pub apart-of : (a b : ℕ) → meets a b ≡ false → Apart a b
@@ -76,7 +76,7 @@ satisfies-holds l r m t w = elim (T-or (not (within l m)) (meets r m) t) [
   | inr common ↦ meets-Meets r m common
 ]
 
-pub holds-satisfies : (l r m : ℕ) → Holds l r m → T (satisfies m (record { left = l; right = r }))
+holds-satisfies : (l r m : ℕ) → Holds l r m → T (satisfies m (record { left = l; right = r }))
 unfolding satisfies
 holds-satisfies l r m h = go (within l m) refl
   where

@@ -1,5 +1,5 @@
--- Definitions of the crate `sat`. Only Table and Answer stand in the contract of its one public function; the others are the
--- terms in which its parts speak to each other.
+-- Definitions of the crate `sat`. The contracts of its two public functions cite Table and Answer; the others are the terms in
+-- which its parts speak to each other.
 pub mod Table
 pub mod Answer
 pub mod Knowledge

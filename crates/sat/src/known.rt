@@ -2,8 +2,6 @@
 use super::Partial;
 use atoms::AtomSet;
 ghost use mathlib.Core.Path.{_≡_};
-ghost use mathlib.Core.Bool.{_&&_};
-ghost use lib.Dec.{eqb};
 ghost use Rattle.atoms.specs.Sets.{union, minus};
 ghost use Rattle.atoms.specs.Words.{num};
 ghost use Rattle.sat.specs.Knowledge.{PartialIs, samePartial};

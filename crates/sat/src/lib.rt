@@ -15,9 +15,9 @@ mod search;
 pub use propagation::all_hold;
 
 // What is known of a model: atoms that it has, and atoms that it lacks.
-pub struct Partial {
-    pub has: AtomSet,
-    pub lacks: AtomSet,
+struct Partial {
+    has: AtomSet,
+    lacks: AtomSet,
 }
 
 // Yes: proved. No: the smallest model that has the atoms given and lacks the atom asked for.
@@ -26,7 +26,7 @@ pub enum Answer {
     Countered(AtomSet),
 }
 
-// Do the first `count` clauses of the table, over atoms below n, and the atoms `given` prove the atom `asked`? ⊥ is 255.
+// Do the first `count` clauses of the table, over atoms below n, and the atoms `given` prove the atom `asked`? ⊥ is `ipl::BOTTOM`.
 pub fn ask<'a>(
     left: &'a [u64],
     right: &'a [u64],

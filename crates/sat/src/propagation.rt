@@ -4,13 +4,13 @@ use super::known;
 use atoms::AtomSet;
 ghost use mathlib.Core.Path.{_≡_};
 ghost use mathlib.Core.Bool.{true};
-ghost use Prim.Native.Nat.{ℕ, _≤_};
+ghost use Prim.Native.Nat.{_≤_};
 ghost use Rattle.atoms.specs.Words.{num};
 ghost use Rattle.ipl.specs.Clause.{satisfies};
 ghost use Rattle.sat.specs.Table.{Holds, AllHold, allHold, PassedHolding};
 ghost use Rattle.sat.specs.Knowledge.{Fair, mayTell, PassedSilent, Forces, Propagates, Blocks};
 
-pub enum Forced {
+enum Forced {
     Conflict,
     Known(Partial),
 }
@@ -60,7 +60,7 @@ fn next_telling<'a>(
 }
 
 // What one clause adds to p.
-pub fn unit(l: AtomSet, r: AtomSet, p: Partial) -> Forced
+fn unit(l: AtomSet, r: AtomSet, p: Partial) -> Forced
     requires { ⌜ Fair p ⌝ }
     ensures { λ f. ⌜ Forces (Holds (num l) (num r)) p f ⌝ }
 {
@@ -88,7 +88,7 @@ pub fn unit(l: AtomSet, r: AtomSet, p: Partial) -> Forced
 }
 
 // What the clauses, each taken once, add to p.
-pub fn sweep<'a>(left: &'a [u64], right: &'a [u64], count: usize, p: Partial) -> Forced
+fn sweep<'a>(left: &'a [u64], right: &'a [u64], count: usize, p: Partial) -> Forced
     requires { ⌜ Fair p ⌝ }
     ensures { λ f. ⌜ Forces (AllHold (now (left .entry)) (now (right .entry)) count) p f ⌝ }
 {
@@ -105,7 +105,7 @@ pub fn sweep<'a>(left: &'a [u64], right: &'a [u64], count: usize, p: Partial) ->
 }
 
 // Whether a clause is true at m: m lacks an atom of its left side, or has one of its right.
-pub fn holds(l: AtomSet, r: AtomSet, m: AtomSet) -> bool
+fn holds(l: AtomSet, r: AtomSet, m: AtomSet) -> bool
     ensures { λ b. ⌜ b ≡ satisfies (num m) (record { left = num l; right = num r }) ⌝ }
 {
     !l.without(m).join(r.common(m)).is_empty()

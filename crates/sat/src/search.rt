@@ -5,8 +5,6 @@ use super::known;
 use super::propagation;
 use super::propagation::Propagated;
 use atoms::AtomSet;
-ghost use mathlib.Core.Path.{_≡_};
-ghost use Rattle.atoms.specs.Words.{num};
 ghost use Rattle.sat.specs.Table.{AllHold};
 ghost use Rattle.sat.specs.Knowledge.{Blocks, Part};
 ghost use Rattle.sat.specs.Descent.{Node, Answers, Steps};
@@ -18,7 +16,7 @@ pub enum Found {
 }
 
 // An answer, or what is then known and the highest open atom.
-pub enum Step {
+enum Step {
     Done(Found),
     Split(Partial, AtomSet),
 }

@@ -1,77 +1,50 @@
 // Settles the formula on standard input and prints the verdict with its figures. With an argument, the name of a file, it also writes
 // the verdict's answer sheet there.
-use certify::Length;
-use clausify::Settled;
 use libc::STDERR_FILENO;
-use libc::STDIN_FILENO;
-use libc::STDOUT_FILENO;
-ghost use Rattle.settle.specs.Input.{FormulaLength};
+use streams::Input;
+use zestanchor::Lengths;
+ghost use Rattle.text.specs.Output.{Gives};
+ghost use Rattle.report.specs.Printed.{printed, sheet};
+ghost use Rattle.settle.specs.Input.{FormulaLength, formula};
 
-// A formula has at most 4,096 bytes, so that one cut at the buffer's end is refused all the same.
-fn settle_input() -> Settled {
-    let mut text = io::large_buffer();
-    let n = io::read_full(STDIN_FILENO, &mut text);
-    settle(&text[..n])
-}
+mod file;
+
+// Whatever follows so many bytes, the formula is refused for its length.
+const ENOUGH: usize = syntax::MOST_BYTES + 2;
 
 // Without one final newline.
-fn formula_length(text: &[u8]) -> usize
-    ensures { λ r. ⌜ FormulaLength (now (text .entry)) r ⌝ }
+fn formula_length(input: &[u8]) -> usize
+    ensures { λ r. ⌜ FormulaLength (now (input .entry)) r ⌝ }
 {
-    let n = text.len();
+    let n = input.len();
     if n == 0 {
         return 0;
     }
-    if text[n - 1] == b'\n' { n - 1 } else { n }
+    if input[n - 1] == b'\n' { n - 1 } else { n }
 }
 
-fn settle(text: &[u8]) -> Settled {
-    clausify::settle(&text[..formula_length(text)])
+// From the input to what is printed and to the sheet.
+fn settle(input: &[u8], report: &mut [u8], certificate: &mut [u8]) -> Lengths
+    ensures { λ r. ⌜ Gives (printed (formula (now (input .entry)))) (now (report .entry)) (now (report .exit)) (r .report)
+        × Gives (sheet (formula (now (input .entry)))) (now (certificate .entry)) (now (certificate .exit)) (r .sheet) ⌝ }
+{
+    let n = formula_length(input);
+    zestanchor::settle_with_sheet(&input[..n], report, certificate)
 }
 
-fn print(settled: Settled) {
-    let mut text = [0u8; 16384];
-    let n = report::report(settled, &mut text);
-    if n <= 16384 {
-        io::write_all(STDOUT_FILENO, &text[..n]);
+// Without a verdict there is no sheet, and the report says so; without a path none is saved.
+fn print(input: &[u8], path: &[u8]) {
+    let mut report = [0u8; text::DRAFT];
+    let mut certificate = [0u8; text::DRAFT];
+    let lengths = settle(input, &mut report, &mut certificate);
+    let size = lengths.sheet;
+    if 0 < size && 0 < path.len() {
+        if !file::save(path, &certificate[..size]) {
+            return;
+        }
     }
-}
-
-fn save(path: &[u8], sheet: &[u8]) -> bool {
-    let file = os::open_overwrite(path);
-    if file < 0 {
-        os::fail(path);
-        return false;
-    }
-    let saved = io::write_all(file, sheet);
-    libc::close(file);
-    if !saved {
-        os::fail(path);
-    }
-    saved
-}
-
-fn save_part(path: &[u8], sheet: &[u8], n: usize) -> bool {
-    if sheet.len() < n {
-        return false;
-    }
-    save(path, &sheet[..n])
-}
-
-// Without a verdict there is no sheet, and the report says so.
-fn save_sheet(path: &[u8], settled: Settled) -> bool {
-    let mut sheet = [0u8; 16384];
-    match certify::write(settled.session, &mut sheet) {
-        Length::Bytes(n) => save_part(path, &sheet, n),
-        Length::Refused(_) => true,
-    }
-}
-
-fn settle_to(path: &[u8]) {
-    let settled = settle_input();
-    if save_sheet(path, settled) {
-        print(settled);
-    }
+    let n = lengths.report;
+    streams::write(&report[..n]);
 }
 
 fn is_name(path: &[u8]) -> bool {
@@ -82,18 +55,22 @@ fn is_name(path: &[u8]) -> bool {
 }
 
 fn main() {
-    if os::arg_count() <= 1 {
-        print(settle_input());
+    if !streams::are_open() {
         return;
     }
     let mut path = io::buffer();
     let n = os::arg(1, &mut path);
-    if os::arg_count() == 2 && is_name(&path[..n]) {
-        settle_to(&path[..n]);
-    } else {
+    let arguments = os::arg_count();
+    if 1 < arguments && !(arguments == 2 && is_name(&path[..n])) {
         io::write_all(
             STDERR_FILENO,
             b"usage: settle [FILE]\nreads a formula from standard input; FILE gets the answer sheet\n",
         );
+        return;
+    }
+    let mut input = [0u8; ENOUGH];
+    match streams::read(&mut input) {
+        Input::Failed => {}
+        Input::Bytes(m) => print(&input[..m], &path[..n]),
     }
 }

@@ -7,12 +7,13 @@ use native.Mathlib.Omega.{arith}
 use lib.Dec.{eqb}
 use lib.ListN.{length, take, replicate}
 use borrow.Author.Tests.{eqb-false}
-use Rattle.syntax.specs.Class.{Class, foreign, closing, ampersand, bar, greater, equals, blank, tilde, opening, nought, lowercase, classOf, codeOf, tokens, after}
+use Rattle.syntax.specs.Class.{Class, foreign, closing, ampersand, bar, greater, equals, blank, tilde, opening, nought, lowercase, classOf, tokens, after}
+use Rattle.syntax.specs.Code.{codeOf}
 use Rattle.syntax.specs.Grammar.{negation, implication, a-letter, a-falsum, inside, no-and, no-or, no-implies, IsFormula, Begins}
 use Rattle.syntax.specs.Refusal.{Longest}
 use Rattle.syntax.specs.Scan.{State, misfit, wanted, had, move, unlessMisfit, fitting, scanned}
 use Rattle.syntax.proofs.Class.{blank-byte, tokens-append, after-append, after-tokens}
-use Rattle.syntax.proofs.Fault.{misfit-stays, misfit-had}
+use Rattle.syntax.proofs.Fault.{misfit-stays, blank-stays, misfit-had}
 use Rattle.syntax.proofs.Run.{parse-runs}
 use Rattle.syntax.proofs.Join.{Some, not-some, Operator, is-and, is-or, is-implies, is-equal, join-some}
 
@@ -82,21 +83,18 @@ ready-step (had d) opening u n r = tt
 ready-step (had d) nought u n r = tt
 ready-step (had d) (lowercase l) u n r = tt
 
-pub blank-stays : (a : State) → move a blank ≡ a
-unfolding move
-blank-stays misfit = refl
-blank-stays (wanted d) = refl
-blank-stays (had d) = refl
-
 -- A text more.
 ready-text : (s : List ℕ) (a : State) (u : List Class) → Ready a u → Ready (after move a (tokens s)) (u ++ tokens s)
 unfolding after tokens codeOf
 ready-text [] a u r = subst (Ready a) (sym (append-nil u)) r
 ready-text (b ∷ s) a u r = go (λ e v q. ready-text s e v q) (eqb b 32) refl
   where
-    go : ((e : State) (v : List Class) → Ready e v → Ready (after move e (tokens s)) (v ++ tokens s)) → (t : Bool) → eqb b 32 ≡ t → Ready (after move a (cond t (tokens s) (classOf b ∷ tokens s))) (u ++ cond t (tokens s) (classOf b ∷ tokens s))
+    go : ((e : State) (v : List Class) → Ready e v → Ready (after move e (tokens s)) (v ++ tokens s)) → (t : Bool) → eqb b 32 ≡ t
+        → Ready (after move a (cond t (tokens s) (classOf b ∷ tokens s))) (u ++ cond t (tokens s) (classOf b ∷ tokens s))
     go ih true q = ih a u r
-    go ih false q = subst (Ready (after move (move a (classOf b)) (tokens s))) (append-assoc u (classOf b ∷ []) (tokens s)) (ih (move a (classOf b)) (u ++ (classOf b ∷ [])) (ready-step a (classOf b) u (λ e. eqb-false b 32 q (blank-byte b (ap codeOf e))) r))
+    go ih false q =
+        subst (Ready (after move (move a (classOf b)) (tokens s))) (append-assoc u (classOf b ∷ []) (tokens s))
+        (ih (move a (classOf b)) (u ++ (classOf b ∷ [])) (ready-step a (classOf b) u (λ e. eqb-false b 32 q (blank-byte b (ap codeOf e))) r))
 
 ready-start : Ready (wanted 0) []
 ready-start f c g done = subst (Some implication) (sym (append-nil f)) g
@@ -127,7 +125,8 @@ Fit (had d) = Unit {0}
 ready-begins : (a : State) (u : List ℕ) → Fit a → Ready a (tokens u) → Begins u
 unfolding Fit tokens classOf
 ready-begins misfit u f r = absurd f
-ready-begins (wanted d) u f r = (48 ∷ replicate d 41, subst (Some implication) (sym (tokens-append u (48 ∷ replicate d 41))) (r (nought ∷ []) (tokens (replicate d 41)) (operand (_, a-falsum)) (closers d)))
+ready-begins (wanted d) u f r =
+    (48 ∷ replicate d 41, subst (Some implication) (sym (tokens-append u (48 ∷ replicate d 41))) (r (nought ∷ []) (tokens (replicate d 41)) (operand (_, a-falsum)) (closers d)))
 ready-begins (had d) u f r = (replicate d 41, subst (Some implication) (sym (tokens-append u (replicate d 41))) (r [] (tokens (replicate d 41)) none (closers d)))
 
 -- The bytes before the place fit, and no more of them do.
@@ -136,7 +135,8 @@ unfolding Fit after fitting
 place-fits [] a f = f
 place-fits (b ∷ s) a f = go (λ e g. place-fits s e g) (move a (classOf b)) refl
   where
-    go : ((e : State) → Fit e → Fit (after move e (map classOf (take (fitting e (map classOf s)) s)))) → (m : State) → move a (classOf b) ≡ m → Fit (after move a (map classOf (take (unlessMisfit m (suc (fitting m (map classOf s)))) (b ∷ s))))
+    go : ((e : State) → Fit e → Fit (after move e (map classOf (take (fitting e (map classOf s)) s)))) → (m : State) → move a (classOf b) ≡ m
+        → Fit (after move a (map classOf (take (unlessMisfit m (suc (fitting m (map classOf s)))) (b ∷ s))))
     go ih misfit e = f
     go ih (wanted d) e = subst (λ (x : State). Fit (after move x (map classOf (take (fitting (wanted d) (map classOf s)) s)))) (sym e) (ih (wanted d) tt)
     go ih (had d) e = subst (λ (x : State). Fit (after move x (map classOf (take (fitting (had d) (map classOf s)) s)))) (sym e) (ih (had d) tt)
@@ -147,7 +147,8 @@ place-last s a zero h f = omega arith
 place-last [] a (suc k) h f = h
 place-last (b ∷ s) a (suc k) h f = go (λ e g. place-last s e k (omega arith) g) (move a (classOf b)) refl f
   where
-    go : ((e : State) → Fit (after move e (map classOf (take k s))) → k ≤ fitting e (map classOf s)) → (m : State) → move a (classOf b) ≡ m → Fit (after move (move a (classOf b)) (map classOf (take k s))) → suc k ≤ unlessMisfit m (suc (fitting m (map classOf s)))
+    go : ((e : State) → Fit (after move e (map classOf (take k s))) → k ≤ fitting e (map classOf s)) → (m : State) → move a (classOf b) ≡ m
+        → Fit (after move (move a (classOf b)) (map classOf (take k s))) → suc k ≤ unlessMisfit m (suc (fitting m (map classOf s)))
     go ih misfit e g = absurd (misfit-fit (subst Fit (ap (λ (x : State). after move x (map classOf (take k s))) e ∙ misfit-stays (map classOf (take k s))) g))
       where
         misfit-fit : Fit misfit → ⊥
@@ -169,7 +170,13 @@ begins-fit : (u : List ℕ) → Begins u → Fit (after move (wanted 0) (map cla
 begins-fit u b = subst Fit (sym (after-tokens move blank-stays (wanted 0) u)) (go (after move (wanted 0) (tokens u)) refl)
   where
     go : (m : State) → after move (wanted 0) (tokens u) ≡ m → Fit m
-    go misfit e = absurd (misfit-had (sym (ap (λ (x : State). after move x (tokens (b .0))) e ∙ misfit-stays (tokens (b .0))) ∙ sym (after-append move (wanted 0) (tokens u) (tokens (b .0))) ∙ sym (ap (after move (wanted 0)) (tokens-append u (b .0))) ∙ parse-runs 0 (b .1 .1)))
+    go misfit e =
+        absurd (misfit-had (
+        sym (ap (λ (x : State). after move x (tokens (b .0))) e ∙ misfit-stays (tokens (b .0)))
+        ∙ sym (after-append move (wanted 0) (tokens u) (tokens (b .0)))
+        ∙ sym (ap (after move (wanted 0)) (tokens-append u (b .0)))
+        ∙ parse-runs 0 (b .1 .1)
+        ))
     go (wanted d) e = unfold Fit in tt
     go (had d) e = unfold Fit in tt
 

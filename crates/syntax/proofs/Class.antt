@@ -1,6 +1,7 @@
 -- Laws of classes: from a number back to its class, a byte's class, what spaces leave, and the fold over a text.
 use mathlib.Core.Bool.{Bool, true, false, cond, _&&_}
 use mathlib.Core.List.{List, [], _∷_, _++_, map}
+use mathlib.Core.Logic.{_⊎_, inl, inr}
 use mathlib.Core.Path.{_≡_, refl, sym, _∙_, ap}
 use Prim.Native.Nat.{ℕ, _+_, _-_, _≤_, _<_}
 use native.Mathlib.Numerals.{add-one}
@@ -8,29 +9,108 @@ use native.Mathlib.Omega.{arith}
 use lib.Dec.{eqb, leb, leb→le}
 use lib.ListN.{length, getD, drop, drop-of-length-le}
 use lib.Seq.{drop-cons}
-use borrow.Author.Tests.{eqb-true, eqb-false, eq-eqb, ne-eqb}
+use borrow.Author.Tests.{eqb-true, eqb-false, eq-eqb, ne-eqb, leb-true, le-leb, lt-leb}
 use Rattle.atoms.proofs.Truth.{by-cond, T-left, T-right, true-T}
-use Rattle.syntax.specs.Class.{Class, foreign, closing, ampersand, bar, greater, equals, blank, tilde, opening, nought, lowercase, classOf, codeOf, tokens, after}
+use Rattle.syntax.specs.Class.{Class, foreign, closing, ampersand, bar, greater, equals, blank, tilde, opening, nought, lowercase}
+use Rattle.syntax.specs.Class.{classOf, tokens, after}
+use Rattle.syntax.specs.Code.{codeOf, decode, classCount, joins, isLetter, isLeaf}
 use Rattle.syntax.specs.Descent.{rest}
 
--- The class of a number.
-abbrev pub decode : ℕ → Class
-decode n =
-    cond (eqb n 0) foreign
-    (cond (eqb n 1) closing
-    (cond (eqb n 2) ampersand
-    (cond (eqb n 3) bar
-    (cond (eqb n 4) greater
-    (cond (eqb n 5) equals
-    (cond (eqb n 6) blank
-    (cond (eqb n 7) tilde
-    (cond (eqb n 8) opening
-    (cond (eqb n 9) nought (lowercase (n - 10)))))))))))
+-- What holds of each class, given its bytes or its number, holds of the class of every byte and of every number.
+module _ (P : Class → Type 0) (n : ℕ) where
+  number-or : (m : ℕ) (c d : Class) → (n ≡ m → P c) → ((n ≡ m → ⊥) → P d) → P (cond (eqb n m) c d)
+  number-or m c d f g = by-cond P (eqb n m) c d (λ e. f (eqb-true n m e)) (λ e. g (eqb-false n m e))
 
-decode-letter : (l : ℕ) → decode (10 + l) ≡ lowercase l
-decode-letter l =
-    let e : (10 + l) - 10 ≡ l = omega arith in
-    simp (ne-eqb (10 + l) 0 (λ z. omega arith), ne-eqb (10 + l) 1 (λ z. omega arith), ne-eqb (10 + l) 2 (λ z. omega arith), ne-eqb (10 + l) 3 (λ z. omega arith), ne-eqb (10 + l) 4 (λ z. omega arith), ne-eqb (10 + l) 5 (λ z. omega arith), ne-eqb (10 + l) 6 (λ z. omega arith), ne-eqb (10 + l) 7 (λ z. omega arith), ne-eqb (10 + l) 8 (λ z. omega arith), ne-eqb (10 + l) 9 (λ z. omega arith), e)
+  by-byte :
+      (n ≡ 126 → P tilde) → (n ≡ 38 → P ampersand) → (n ≡ 124 → P bar) → (n ≡ 62 → P greater) → (n ≡ 61 → P equals)
+      → (n ≡ 48 → P nought) → (n ≡ 40 → P opening) → (n ≡ 41 → P closing) → (n ≡ 32 → P blank)
+      → (97 ≤ n → n ≤ 122 → P (lowercase (n - 97))) → P foreign → P (classOf n)
+  unfolding classOf
+  by-byte not and or implies equal falsum opens shuts space l p =
+      number-or 126 _ _ not (λ _. number-or 38 _ _ and (λ _. number-or 124 _ _ or (λ _. number-or 62 _ _ implies (λ _.
+      number-or 61 _ _ equal (λ _. number-or 48 _ _ falsum (λ _. number-or 40 _ _ opens (λ _. number-or 41 _ _ shuts (λ _.
+      number-or 32 _ _ space (λ _. by-cond P (leb 97 n && leb n 122) _ _ (λ e. l (first e) (second e)) (λ e. p))))))))))
+    where
+      first : leb 97 n && leb n 122 ≡ true → 97 ≤ n
+      first e = leb→le 97 n (T-left (leb 97 n) (leb n 122) (true-T e))
+
+      second : leb 97 n && leb n 122 ≡ true → n ≤ 122
+      second e = leb→le n 122 (T-right (leb 97 n) (leb n 122) (true-T e))
+
+  next-number : (m : ℕ) (c d : Class) → m ≤ n → (n ≡ m → P c) → (m + 1 ≤ n → P d) → P (cond (eqb n m) c d)
+  next-number m c d h f g = number-or m c d f (λ e. g (omega arith))
+
+  pub by-number :
+      (n ≡ 0 → P foreign) → (n ≡ 1 → P closing) → (n ≡ 2 → P ampersand) → (n ≡ 3 → P bar) → (n ≡ 4 → P greater)
+      → (n ≡ 5 → P equals) → (n ≡ 6 → P blank) → (n ≡ 7 → P tilde) → (n ≡ 8 → P opening) → (n ≡ 9 → P nought)
+      → (10 ≤ n → P (lowercase (n - 10))) → P (decode n)
+  by-number f0 f1 f2 f3 f4 f5 f6 f7 f8 f9 l =
+      next-number 0 _ _ (omega arith) f0 (λ n1. next-number 1 _ _ n1 f1 (λ n2. next-number 2 _ _ n2 f2 (λ n3.
+      next-number 3 _ _ n3 f3 (λ n4. next-number 4 _ _ n4 f4 (λ n5. next-number 5 _ _ n5 f5 (λ n6.
+      next-number 6 _ _ n6 f6 (λ n7. next-number 7 _ _ n7 f7 (λ n8. next-number 8 _ _ n8 f8 (λ n9. next-number 9 _ _ n9 f9 l)))))))))
+
+abbrev Small : Class → Type 0
+Small c = codeOf c < classCount
+
+pub code-small : (b : ℕ) → codeOf (classOf b) < classCount
+unfolding codeOf
+code-small b =
+    by-byte Small b
+    (λ _. omega arith) (λ _. omega arith) (λ _. omega arith) (λ _. omega arith) (λ _. omega arith) (λ _. omega arith)
+    (λ _. omega arith) (λ _. omega arith) (λ _. omega arith) (λ low high. omega arith) (omega arith)
+
+-- Byte 32 alone is a space.
+pub blank-byte : (b : ℕ) → codeOf (classOf b) ≡ 6 → b ≡ 32
+unfolding codeOf
+blank-byte b =
+    by-byte (λ c. codeOf c ≡ 6 → b ≡ 32) b
+    (λ _ e. absurd (omega arith)) (λ _ e. absurd (omega arith)) (λ _ e. absurd (omega arith)) (λ _ e. absurd (omega arith))
+    (λ _ e. absurd (omega arith)) (λ _ e. absurd (omega arith)) (λ _ e. absurd (omega arith)) (λ _ e. absurd (omega arith))
+    (λ h e. h) (λ _ _ e. absurd (omega arith)) (λ e. absurd (omega arith))
+
+-- The tests by a class's number.
+module _ (n : ℕ) where
+  pub decode-letter : 10 ≤ n → decode n ≡ lowercase (n - 10)
+  decode-letter h =
+      by-number (λ (c : Class). c ≡ lowercase (n - 10)) n
+      (λ e. absurd (omega arith)) (λ e. absurd (omega arith)) (λ e. absurd (omega arith)) (λ e. absurd (omega arith)) (λ e. absurd (omega arith))
+      (λ e. absurd (omega arith)) (λ e. absurd (omega arith)) (λ e. absurd (omega arith)) (λ e. absurd (omega arith)) (λ e. absurd (omega arith))
+      (λ _. refl)
+
+  pub letter-test : leb 10 n ≡ isLetter (decode n)
+  unfolding isLetter
+  letter-test =
+      by-number (λ c. leb 10 n ≡ isLetter c) n
+      (λ e. lt-leb 10 n (omega arith)) (λ e. lt-leb 10 n (omega arith)) (λ e. lt-leb 10 n (omega arith)) (λ e. lt-leb 10 n (omega arith))
+      (λ e. lt-leb 10 n (omega arith)) (λ e. lt-leb 10 n (omega arith)) (λ e. lt-leb 10 n (omega arith)) (λ e. lt-leb 10 n (omega arith))
+      (λ e. lt-leb 10 n (omega arith)) (λ e. lt-leb 10 n (omega arith)) (λ h. le-leb 10 n h)
+
+  pub letter-number : isLetter (decode n) ≡ true → 10 ≤ n
+  letter-number e = leb-true 10 n (letter-test ∙ e)
+
+  pub leaf-letter : (n ≡ 9 → ⊥) → isLetter (decode n) ≡ isLeaf (decode n)
+  unfolding isLetter isLeaf
+  leaf-letter h =
+      by-number (λ c. isLetter c ≡ isLeaf c) n
+      (λ _. refl) (λ _. refl) (λ _. refl) (λ _. refl) (λ _. refl) (λ _. refl) (λ _. refl) (λ _. refl) (λ _. refl) (λ e. absurd (h e)) (λ _. refl)
+
+  pub binary : 2 ≤ n → n < 6 → true ≡ joins (decode n)
+  unfolding joins
+  binary low high =
+      by-number (λ c. true ≡ joins c) n
+      (λ e. absurd (omega arith)) (λ e. absurd (omega arith)) (λ _. refl) (λ _. refl) (λ _. refl) (λ _. refl)
+      (λ e. absurd (omega arith)) (λ e. absurd (omega arith)) (λ e. absurd (omega arith)) (λ e. absurd (omega arith)) (λ h. absurd (omega arith))
+
+  pub no-binary : (n < 2) ⊎ (6 ≤ n) → false ≡ joins (decode n)
+  unfolding joins
+  no-binary (inl h) =
+      by-number (λ c. false ≡ joins c) n
+      (λ _. refl) (λ _. refl) (λ e. absurd (omega arith)) (λ e. absurd (omega arith)) (λ e. absurd (omega arith)) (λ e. absurd (omega arith))
+      (λ _. refl) (λ _. refl) (λ _. refl) (λ _. refl) (λ _. refl)
+  no-binary (inr h) =
+      by-number (λ c. false ≡ joins c) n
+      (λ _. refl) (λ _. refl) (λ e. absurd (omega arith)) (λ e. absurd (omega arith)) (λ e. absurd (omega arith)) (λ e. absurd (omega arith))
+      (λ _. refl) (λ _. refl) (λ _. refl) (λ _. refl) (λ _. refl)
 
 decode-code : (c : Class) → decode (codeOf c) ≡ c
 unfolding codeOf
@@ -44,48 +124,13 @@ decode-code blank = refl
 decode-code tilde = refl
 decode-code opening = refl
 decode-code nought = refl
-decode-code (lowercase l) = decode-letter l
+decode-code (lowercase l) = decode-letter (10 + l) (omega arith) ∙ ap lowercase (omega arith)
 
 pub class-is : (c : Class) (n : ℕ) → n ≡ codeOf c → c ≡ decode n
 class-is c n e = sym (decode-code c) ∙ ap decode (sym e)
 
--- A letter by its number.
-pub letter-is : (x : Class) (n : ℕ) → n ≡ codeOf x → 10 ≤ n → x ≡ lowercase (n - 10)
-unfolding codeOf
-letter-is foreign n e h = absurd (omega arith)
-letter-is closing n e h = absurd (omega arith)
-letter-is ampersand n e h = absurd (omega arith)
-letter-is bar n e h = absurd (omega arith)
-letter-is greater n e h = absurd (omega arith)
-letter-is equals n e h = absurd (omega arith)
-letter-is blank n e h = absurd (omega arith)
-letter-is tilde n e h = absurd (omega arith)
-letter-is opening n e h = absurd (omega arith)
-letter-is nought n e h = absurd (omega arith)
-letter-is (lowercase l) n e h = ap lowercase (omega arith)
-
--- What holds of each class, given its bytes, holds of every byte's class.
-module _ (P : Class → Type 0) (b : ℕ) where
-  byte-or : (n : ℕ) (c d : Class) → (b ≡ n → P c) → P d → P (cond (eqb b n) c d)
-  byte-or n c d f p = by-cond P (eqb b n) c d (λ e. f (eqb-true b n e)) (λ e. p)
-
-  pub by-class : (b ≡ 126 → P tilde) → (b ≡ 38 → P ampersand) → (b ≡ 124 → P bar) → (b ≡ 62 → P greater) → (b ≡ 61 → P equals) → (b ≡ 48 → P nought) → (b ≡ 40 → P opening) → (b ≡ 41 → P closing) → (b ≡ 32 → P blank) → (97 ≤ b → b ≤ 122 → P (lowercase (b - 97))) → P foreign → P (classOf b)
-  unfolding classOf
-  by-class f1 f2 f3 f4 f5 f6 f7 f8 f9 l p =
-      byte-or 126 _ _ f1 (byte-or 38 _ _ f2 (byte-or 124 _ _ f3 (byte-or 62 _ _ f4 (byte-or 61 _ _ f5 (byte-or 48 _ _ f6 (byte-or 40 _ _ f7 (byte-or 41 _ _ f8 (byte-or 32 _ _ f9
-      (by-cond P (leb 97 b && leb b 122) _ _ (λ e. l (leb→le 97 b (T-left (leb 97 b) (leb b 122) (true-T e))) (leb→le b 122 (T-right (leb 97 b) (leb b 122) (true-T e)))) (λ e. p))))))))))
-
-abbrev Small : Class → Type 0
-Small c = codeOf c < 36
-
-pub code-small : (b : ℕ) → codeOf (classOf b) < 36
-unfolding codeOf
-code-small b = by-class Small b (λ _. omega arith) (λ _. omega arith) (λ _. omega arith) (λ _. omega arith) (λ _. omega arith) (λ _. omega arith) (λ _. omega arith) (λ _. omega arith) (λ _. omega arith) (λ u v. omega arith) (omega arith)
-
--- Byte 32 alone is a space.
-pub blank-byte : (b : ℕ) → codeOf (classOf b) ≡ 6 → b ≡ 32
-unfolding codeOf
-blank-byte b = by-class (λ c. codeOf c ≡ 6 → b ≡ 32) b (λ _ e. absurd (omega arith)) (λ _ e. absurd (omega arith)) (λ _ e. absurd (omega arith)) (λ _ e. absurd (omega arith)) (λ _ e. absurd (omega arith)) (λ _ e. absurd (omega arith)) (λ _ e. absurd (omega arith)) (λ _ e. absurd (omega arith)) (λ h e. h) (λ u v e. absurd (omega arith)) (λ e. absurd (omega arith))
+pub letter-is : (c : Class) (n : ℕ) → n ≡ codeOf c → 10 ≤ n → c ≡ lowercase (n - 10)
+letter-is c n e h = class-is c n e ∙ decode-letter n h
 
 -- No token is a space.
 pub no-blank : (s : List ℕ) (c : Class) (l : List Class) → tokens s ≡ c ∷ l → c ≡ blank → ⊥

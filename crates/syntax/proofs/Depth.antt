@@ -10,7 +10,7 @@ use lib.Dec.{eqb}
 use lib.ListN.{length, getD, take}
 use lib.Seq.{take-suc, take-all}
 use Rattle.atoms.proofs.Truth.{by-cond}
-use Rattle.syntax.specs.Refusal.{count, TooDeepAt, TooDeep}
+use Rattle.syntax.specs.Refusal.{count, mostOpen, TooDeepAt, TooDeep}
 
 count-snoc : (x : ℕ) (u : List ℕ) (b : ℕ) → count x (u ++ (b ∷ [])) ≡ count x u + cond (eqb b x) 1 0
 unfolding count
@@ -49,10 +49,10 @@ module _ (s : List ℕ) where
     counts x = rw (add-one, take-suc s i 0) (count-snoc x (take i s) (getD s i 0))
 
     module _ (a b : ℕ) (ea : a ≡ cond (eqb (getD s i 0) 40) 1 0) (eb : b ≡ cond (eqb (getD s i 0) 41) 1 0) (ha : a ≤ 1) (hb : b ≤ 1) where
-      pub found-deep : 64 + (closed + b) < opened + a → TooDeep s
+      pub found-deep : mostOpen + (closed + b) < opened + a → TooDeep s
       found-deep d = (i + 1, omega (arith, counts 40, counts 41, h .opened-is, h .closed-is, ea, eb))
 
-      pub shallow-next : (64 + (closed + b) < opened + a → ⊥) → Shallow s (opened + a) (closed + b) (i + 1)
+      pub shallow-next : (mostOpen + (closed + b) < opened + a → ⊥) → Shallow s (opened + a) (closed + b) (i + 1)
       shallow-next n = record {
         inside = omega arith;
         opened-is = omega (arith, counts 40, h .opened-is, ea);
@@ -65,11 +65,11 @@ module _ (s : List ℕ) where
         ];
       }
         where
-          last : TooDeepAt s (i + 1) → 64 + (closed + b) < opened + a
+          last : TooDeepAt s (i + 1) → mostOpen + (closed + b) < opened + a
           last t = omega (arith, counts 40, counts 41, h .opened-is, h .closed-is, ea, eb)
 
   pub shallow-all : (opened closed i : ℕ) → Shallow s opened closed i → length s ≤ i → TooDeep s → ⊥
   shallow-all opened closed i h l (k, t) = elim (decLt k i) [
     | yes e ↦ h .none k (omega arith) t
-    | no e ↦ h .none i (omega arith) (let q : take k s ≡ take i s = take-all k s (omega (arith, h .inside)) ∙ sym (take-all i s l) in subst (λ (u : List ℕ). 64 + count 41 u < count 40 u) q t)
+    | no e ↦ h .none i (omega arith) (let q : take k s ≡ take i s = take-all k s (omega (arith, h .inside)) ∙ sym (take-all i s l) in subst (λ (u : List ℕ). mostOpen + count 41 u < count 40 u) q t)
   ]

@@ -1,50 +1,78 @@
 -- The scan for refusal 3, byte by byte.
-use mathlib.Core.Bool.{Bool, true, false, cond}
+use mathlib.Core.Bool.{Bool, true, false, true≢false, false≢true}
 use mathlib.Core.List.{List, [], _∷_, map}
 use mathlib.Core.Path.{_≡_, refl, sym, _∙_, ap}
 use Prim.Native.Nat.{ℕ, zero, suc, _+_, _-_, _≤_, _<_}
 use native.Mathlib.Numerals.{add-one, sub-one}
 use native.Mathlib.Nat.{add-zero}
 use native.Mathlib.Omega.{arith}
-use lib.Dec.{eqb}
 use lib.ListN.{length, getD, drop, drop-of-length-le}
 use lib.Seq.{drop-cons}
-use borrow.Author.Tests.{ne-eqb, le-ltb}
-use Rattle.syntax.specs.Class.{Class, foreign, closing, ampersand, bar, greater, equals, blank, tilde, opening, nought, lowercase, classOf, codeOf, after}
-use Rattle.syntax.specs.Scan.{State, misfit, wanted, had, closed, move, unlessMisfit, fitting, stateOf, turnState, turnBy, scanned}
-use Rattle.syntax.specs.declared.passes.Turn.{Turn}
-use Rattle.syntax.specs.declared.passes.Turn.the-variants.{Misfit, Fits}
-use Rattle.syntax.proofs.Class.{after-byte, after-end}
+use Rattle.syntax.specs.Class.{Class, foreign, closing, ampersand, bar, greater, equals, blank, tilde, opening, nought, lowercase}
+use Rattle.syntax.specs.Class.{classOf, after}
+use Rattle.syntax.specs.Code.{codeOf, decode, joins, isLeaf}
+use Rattle.syntax.specs.Scan.{State, misfit, wanted, had, closed, move, unlessMisfit, fitting, stateOf, scanned}
+use Rattle.syntax.proofs.Class.{by-number, class-is, after-byte, after-end}
 
-shut-state : (d : ℕ) → turnState (cond (eqb d 0) Misfit (Fits false (d - 1))) ≡ closed d
-shut-state zero = refl
-shut-state (suc d) = rw (ne-eqb (suc d) 0 (λ e. omega arith)) (ap had (sub-one (suc d)))
+pub blank-stays : (a : State) → move a blank ≡ a
+unfolding move
+blank-stays misfit = refl
+blank-stays (wanted d) = refl
+blank-stays (had d) = refl
 
--- A turn by the class's number is the move.
-turn-is : (w : Bool) (d : ℕ) (c : Class) → turnState (turnBy w d (codeOf c)) ≡ move (stateOf w d) c
-unfolding codeOf move
-turn-is true d foreign = refl
-turn-is true d closing = refl
-turn-is true d ampersand = refl
-turn-is true d bar = refl
-turn-is true d greater = refl
-turn-is true d equals = refl
-turn-is true d blank = refl
-turn-is true d tilde = refl
-turn-is true d opening = ap wanted (add-one d)
-turn-is true d nought = refl
-turn-is true d (lowercase l) = simp (le-ltb (10 + l) 6 (omega arith), le-ltb (10 + l) 8 (omega arith), ne-eqb (10 + l) 8 (λ e. omega arith))
-turn-is false d foreign = refl
-turn-is false d closing = shut-state d
-turn-is false d ampersand = refl
-turn-is false d bar = refl
-turn-is false d greater = refl
-turn-is false d equals = refl
-turn-is false d blank = refl
-turn-is false d tilde = refl
-turn-is false d opening = refl
-turn-is false d nought = refl
-turn-is false d (lowercase l) = simp (ne-eqb (10 + l) 6 (λ e. omega arith), ne-eqb (10 + l) 1 (λ e. omega arith), ne-eqb (10 + l) 0 (λ e. omega arith), le-ltb (10 + l) 6 (omega arith))
+-- The turn of a token, by its class's number: a space; where an operand is wanted; after one.
+module _ (d n : ℕ) where
+  pub blank-turn : (w : Bool) → n ≡ 6 → stateOf w d ≡ move (stateOf w d) (decode n)
+  blank-turn w e = rw e (sym (blank-stays (stateOf w d)))
+
+  pub not-turn : n ≡ 7 → wanted d ≡ move (wanted d) (decode n)
+  unfolding move
+  not-turn e = rw e
+
+  pub opening-turn : n ≡ 8 → wanted (d + 1) ≡ move (wanted d) (decode n)
+  unfolding move
+  opening-turn e = rw e (ap wanted (add-one d))
+
+  pub leaf-turn : isLeaf (decode n) ≡ true → had d ≡ move (wanted d) (decode n)
+  unfolding isLeaf move
+  leaf-turn =
+      by-number (λ c. isLeaf c ≡ true → had d ≡ move (wanted d) c) n
+      (λ _ f. absurd (false≢true f)) (λ _ f. absurd (false≢true f)) (λ _ f. absurd (false≢true f)) (λ _ f. absurd (false≢true f))
+      (λ _ f. absurd (false≢true f)) (λ _ f. absurd (false≢true f)) (λ _ f. absurd (false≢true f)) (λ _ f. absurd (false≢true f))
+      (λ _ f. absurd (false≢true f)) (λ _ _. refl) (λ _ _. refl)
+
+  pub wanted-misfit : (n ≡ 6 → ⊥) → (n ≡ 7 → ⊥) → (n ≡ 8 → ⊥) → isLeaf (decode n) ≡ false → misfit ≡ move (wanted d) (decode n)
+  unfolding isLeaf move
+  wanted-misfit space not opens =
+      by-number (λ c. isLeaf c ≡ false → misfit ≡ move (wanted d) c) n
+      (λ _ _. refl) (λ _ _. refl) (λ _ _. refl) (λ _ _. refl) (λ _ _. refl) (λ _ _. refl) (λ e _. absurd (space e)) (λ e _. absurd (not e))
+      (λ e _. absurd (opens e)) (λ _ f. absurd (true≢false f)) (λ _ f. absurd (true≢false f))
+
+  pub closing-misfit : n ≡ 1 → d ≡ 0 → misfit ≡ move (had d) (decode n)
+  unfolding move
+  closing-misfit e z = rw (e, z)
+
+  pub closing-turn : n ≡ 1 → (d ≡ 0 → ⊥) → had (d - 1) ≡ move (had d) (decode n)
+  unfolding move
+  closing-turn e z = rw e (closes d z)
+    where
+      closes : (k : ℕ) → (k ≡ 0 → ⊥) → had (k - 1) ≡ closed k
+      closes zero f = absurd (f refl)
+      closes (suc k) f = ap had (sub-one (suc k))
+
+  pub binary-turn : joins (decode n) ≡ true → wanted d ≡ move (had d) (decode n)
+  unfolding joins move
+  binary-turn =
+      by-number (λ c. joins c ≡ true → wanted d ≡ move (had d) c) n
+      (λ _ f. absurd (false≢true f)) (λ _ f. absurd (false≢true f)) (λ _ _. refl) (λ _ _. refl) (λ _ _. refl) (λ _ _. refl)
+      (λ _ f. absurd (false≢true f)) (λ _ f. absurd (false≢true f)) (λ _ f. absurd (false≢true f)) (λ _ f. absurd (false≢true f)) (λ _ f. absurd (false≢true f))
+
+  pub had-misfit : (n ≡ 6 → ⊥) → (n ≡ 1 → ⊥) → joins (decode n) ≡ false → misfit ≡ move (had d) (decode n)
+  unfolding joins move
+  had-misfit space shut =
+      by-number (λ c. joins c ≡ false → misfit ≡ move (had d) c) n
+      (λ _ _. refl) (λ e _. absurd (shut e)) (λ _ f. absurd (true≢false f)) (λ _ f. absurd (true≢false f)) (λ _ f. absurd (true≢false f))
+      (λ _ f. absurd (true≢false f)) (λ e _. absurd (space e)) (λ _ _. refl) (λ _ _. refl) (λ _ _. refl) (λ _ _. refl)
 
 abbrev depthOf : State → ℕ
 depthOf misfit = 0
@@ -109,20 +137,25 @@ module _ (s : List ℕ) where
   scan-start = record { inside = omega arith; depth = omega arith; runs = refl; places = omega arith }
 
   module _ (w : Bool) (d i : ℕ) (a : ScannedTo s w d i) where
-    fitting-byte : i < length s → fitting (stateOf w d) (map classOf (drop i s)) ≡ unlessMisfit (move (stateOf w d) (classOf (getD s i 0))) (suc (fitting (move (stateOf w d) (classOf (getD s i 0))) (map classOf (drop (i + 1) s))))
+    -- Where the state before byte i's class leads, and how many fit from there on.
+    abbrev fittingFrom : State → ℕ
+    fittingFrom x = unlessMisfit x (suc (fitting x (map classOf (drop (i + 1) s))))
+
+    fitting-byte : i < length s → fitting (stateOf w d) (map classOf (drop i s)) ≡ fittingFrom (move (stateOf w d) (classOf (getD s i 0)))
     unfolding fitting
     fitting-byte h = rw (add-one, drop-cons s i 0)
 
     module _ (h : i < length s) (n : ℕ) (k : n ≡ codeOf (classOf (getD s i 0))) where
-      turned : (t : Turn) → t ≡ turnBy w d n → move (stateOf w d) (classOf (getD s i 0)) ≡ turnState t
-      turned t e = sym (turn-is w d (classOf (getD s i 0))) ∙ ap (λ (m : ℕ). turnState (turnBy w d m)) (sym k) ∙ ap turnState (sym e)
+      turned : (x : State) → x ≡ move (stateOf w d) (decode n) → move (stateOf w d) (classOf (getD s i 0)) ≡ x
+      turned x e = ap (move (stateOf w d)) (class-is (classOf (getD s i 0)) n k) ∙ sym e
 
-      next : (v : Bool) (e : ℕ) → move (stateOf w d) (classOf (getD s i 0)) ≡ stateOf v e → fitting (stateOf w d) (map classOf (drop i s)) ≡ suc (fitting (stateOf v e) (map classOf (drop (i + 1) s)))
-      next v e m = fitting-byte h ∙ ap (λ (x : State). unlessMisfit x (suc (fitting x (map classOf (drop (i + 1) s))))) m ∙ fits-state v e (suc (fitting (stateOf v e) (map classOf (drop (i + 1) s))))
+      next : (v : Bool) (e : ℕ) → move (stateOf w d) (classOf (getD s i 0)) ≡ stateOf v e
+          → fitting (stateOf w d) (map classOf (drop i s)) ≡ suc (fitting (stateOf v e) (map classOf (drop (i + 1) s)))
+      next v e m = fitting-byte h ∙ ap fittingFrom m ∙ fits-state v e (suc (fitting (stateOf v e) (map classOf (drop (i + 1) s))))
 
-      pub scan-next : (v : Bool) (e : ℕ) → Fits v e ≡ turnBy w d n → ScannedTo s v e (i + 1)
+      pub scan-next : (v : Bool) (e : ℕ) → stateOf v e ≡ move (stateOf w d) (decode n) → ScannedTo s v e (i + 1)
       scan-next v e t =
-          let m = turned (Fits v e) t in
+          let m = turned (stateOf v e) t in
           record {
             inside = omega arith;
             depth = omega (arith, a .depth, depth-grows (stateOf w d) (classOf (getD s i 0)), depth-of-state w d, depth-of-state v e, ap depthOf m);
@@ -130,11 +163,11 @@ module _ (s : List ℕ) where
             places = omega (arith, a .places, next v e m);
           }
 
-      pub scan-misfit : Misfit ≡ turnBy w d n → (scanned s ≡ had 0 → ⊥) × (i ≡ fitting (wanted 0) (map classOf s))
+      pub scan-misfit : misfit ≡ move (stateOf w d) (decode n) → (scanned s ≡ had 0 → ⊥) × (i ≡ fitting (wanted 0) (map classOf s))
       scan-misfit t =
-          let m = turned Misfit t in (
+          let m = turned misfit t in (
             λ e. misfit-had (sym (a .runs ∙ after-byte move (stateOf w d) s i h ∙ rw m (misfit-stays _)) ∙ e),
-            omega (arith, a .places, fitting-byte h ∙ ap (λ (x : State). unlessMisfit x (suc (fitting x (map classOf (drop (i + 1) s))))) m),
+            omega (arith, a .places, fitting-byte h ∙ ap fittingFrom m),
           )
 
     module _ (h : length s ≤ i) where

@@ -33,7 +33,7 @@ module _ (p : Parts) (s : Sound p) where
   pub held-at : (i : ℕ) (n : Node) → i < p .count → getD (held p) i (entryAt n) ≡ entryAt (getD (p .nodes) i n)
   held-at i n h = List·getD-map entryAt (take (p .count) (p .nodes)) i n ∙ ap entryAt (getD-take (p .count) (p .nodes) i n h)
 
-  pub push-sound : (e : Part) → Sound (pushed p e)
+  push-sound : (e : Part) → Sound (pushed p e)
   push-sound e = by-cond Sound (ltb (p .count) room) _ p
       (λ t. record { sized = length-set (p .nodes) (p .count) (record { part = e }) ∙ s .sized; bounded = omega (arith, ltb-lt t) })
       (λ t. s)
@@ -41,8 +41,10 @@ module _ (p : Parts) (s : Sound p) where
       ltb-lt : ltb (p .count) room ≡ true → p .count < room
       ltb-lt t = borrow.Author.Tests.ltb-true (p .count) room t
 
-  pub push-held : (e : Part) → p .count < room → held (pushed p e) ≡ held p ++ (entryOf e ∷ [])
-  push-held e h = rw (lt-ltb (p .count) room h, add-one, take-suc-set (p .nodes) (p .count) (record { part = e }) (rw (s .sized) h)) (map-snoc entryAt (take (p .count) (p .nodes)) (record { part = e }))
+  push-held : (e : Part) → p .count < room → held (pushed p e) ≡ held p ++ (entryOf e ∷ [])
+  push-held e h =
+      rw (lt-ltb (p .count) room h, add-one, take-suc-set (p .nodes) (p .count) (record { part = e }) (rw (s .sized) h))
+      (map-snoc entryAt (take (p .count) (p .nodes)) (record { part = e }))
 
 -- No row before i is the leaf.
 pub record NotBefore (e : Entry) (T : List Entry) (i : ℕ) : Type 0 where
@@ -59,11 +61,11 @@ module _ (e : Entry) (T : List Entry) where
     leaf-none h = sym (n .on ∙ rw (drop-of-length-le T h) (add-zero i))
 
     module _ (h : i < length T) (x : Entry) where
-      pub leaf-here : sameLeaf (getD T i x) e ≡ true → i ≡ leafAt e T
+      leaf-here : sameLeaf (getD T i x) e ≡ true → i ≡ leafAt e T
       unfolding leafAt
       leaf-here t = sym (n .on ∙ rw (drop-cons T i x h, t) (add-zero i))
 
-      pub leaf-later : sameLeaf (getD T i x) e ≡ false → NotBefore e T (i + 1)
+      leaf-later : sameLeaf (getD T i x) e ≡ false → NotBefore e T (i + 1)
       leaf-later t = record { inside = omega arith; on = omega (arith, n .on, step) }
         where
           step : leafAt e (drop i T) ≡ suc (leafAt e (drop (i + 1) T))
@@ -143,7 +145,8 @@ held-as m n o e k = record {
 }
 
 -- A compound over what is held is one over what it stands for.
-then-compound : (n : Named) (r : Parsed) (c : Connective) (a m : ℕ) (o : Parsed) → Holds n r → (Fits n → a ≡ m) → Holds (withCompound (held (r .parts)) c a (r .root)) o → Holds (withCompound (n .table) c m (n .root)) o
+then-compound : (n : Named) (r : Parsed) (c : Connective) (a m : ℕ) (o : Parsed) → Holds n r → (Fits n → a ≡ m) → Holds (withCompound (held (r .parts)) c a (r .root)) o
+    → Holds (withCompound (n .table) c m (n .root)) o
 then-compound n r c a m o h e k = held-as (withCompound (held (r .parts)) c a (r .root)) (withCompound (n .table) c m (n .root)) o same k
   where
     same : Fits (withCompound (n .table) c m (n .root)) → withCompound (held (r .parts)) c a (r .root) ≡ withCompound (n .table) c m (n .root)
@@ -153,7 +156,8 @@ pub then-negation : (T : List Entry) (a : ℕ) (z o : Parsed) → Holds (withLea
 unfolding withNegation
 then-negation T a z o h k = then-compound (withLeaf T falsum) z Implies a a o h (λ w. refl) k
 
-pub then-equivalence : (T : List Entry) (a b : ℕ) (x y o : Parsed) → Holds (withCompound T Implies a b) x → Holds (withCompound (held (x .parts)) Implies b a) y → Holds (withCompound (held (y .parts)) And (x .root) (y .root)) o → Holds (withEquivalence T a b) o
+pub then-equivalence : (T : List Entry) (a b : ℕ) (x y o : Parsed) → Holds (withCompound T Implies a b) x → Holds (withCompound (held (x .parts)) Implies b a) y
+    → Holds (withCompound (held (y .parts)) And (x .root) (y .root)) o → Holds (withEquivalence T a b) o
 unfolding withEquivalence
 then-equivalence T a b x y o h k l =
     let there = withCompound T Implies a b in

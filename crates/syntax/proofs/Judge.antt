@@ -14,7 +14,7 @@ use Rattle.syntax.specs.Class.{classOf}
 use Rattle.syntax.specs.Grammar.{Tree}
 use Rattle.syntax.specs.Reading.{reading}
 use Rattle.syntax.specs.Nodes.{nodes, named}
-use Rattle.syntax.specs.Refusal.{BadLength, count, TooDeep, Longest, line-1, line-2, line-3, line-4}
+use Rattle.syntax.specs.Refusal.{mostBytes, BadLength, count, mostOpen, mostNames, TooDeep, Longest, line-1, line-2, line-3, line-4}
 use Rattle.syntax.specs.Scan.{wanted, fitting}
 use Rattle.syntax.specs.Judge.{Judgement, refused, accepted, isByte, deepAfter, judgeTree, judge, Right}
 use Rattle.syntax.proofs.Unique.{reading-of, reading-reads}
@@ -26,24 +26,25 @@ count-first x b s = by-cond (λ (n : ℕ). cond (eqb b x) (suc (count x s)) (cou
 
 -- A beginning is too deep, after the parentheses already counted.
 abbrev DeepAfter : ℕ → ℕ → List ℕ → ℕ → Type 0
-DeepAfter o c s k = 64 + (c + count 41 (take k s)) < o + count 40 (take k s)
+DeepAfter o c s k = mostOpen + (c + count 41 (take k s)) < o + count 40 (take k s)
 
 deep-found : (s : List ℕ) (o c : ℕ) → T (deepAfter o c s) → (k : ℕ) × DeepAfter o c s k
 unfolding deepAfter count
 deep-found [] o c t = absurd t
-deep-found (b ∷ s) o c t = go (T-or (ltb (64 + (c + isByte 41 b)) (o + isByte 40 b)) _ t) (λ h. deep-found s (o + isByte 40 b) (c + isByte 41 b) h)
+deep-found (b ∷ s) o c t = go (T-or (ltb (mostOpen + (c + isByte 41 b)) (o + isByte 40 b)) _ t) (λ h. deep-found s (o + isByte 40 b) (c + isByte 41 b) h)
   where
-    go : T (ltb (64 + (c + isByte 41 b)) (o + isByte 40 b)) ⊎ T (deepAfter (o + isByte 40 b) (c + isByte 41 b) s) → (T (deepAfter (o + isByte 40 b) (c + isByte 41 b) s) → (k : ℕ) × DeepAfter (o + isByte 40 b) (c + isByte 41 b) s k) → (k : ℕ) × DeepAfter o c (b ∷ s) k
-    go (inl h) ih = (1, omega (arith, ltb-true (64 + (c + isByte 41 b)) (o + isByte 40 b) (T-true _ h), count-first 40 b [], count-first 41 b []))
+    go : T (ltb (mostOpen + (c + isByte 41 b)) (o + isByte 40 b)) ⊎ T (deepAfter (o + isByte 40 b) (c + isByte 41 b) s)
+        → (T (deepAfter (o + isByte 40 b) (c + isByte 41 b) s) → (k : ℕ) × DeepAfter (o + isByte 40 b) (c + isByte 41 b) s k) → (k : ℕ) × DeepAfter o c (b ∷ s) k
+    go (inl h) ih = (1, omega (arith, ltb-true (mostOpen + (c + isByte 41 b)) (o + isByte 40 b) (T-true _ h), count-first 40 b [], count-first 41 b []))
     go (inr h) ih = let x = ih h in (suc (x .0), omega (arith, x .1, count-first 40 b (take (x .0) s), count-first 41 b (take (x .0) s)))
 
-deep-none : (s : List ℕ) (o c : ℕ) → (64 + c < o → ⊥) → deepAfter o c s ≡ false → (k : ℕ) → DeepAfter o c s k → ⊥
+deep-none : (s : List ℕ) (o c : ℕ) → (mostOpen + c < o → ⊥) → deepAfter o c s ≡ false → (k : ℕ) → DeepAfter o c s k → ⊥
 unfolding deepAfter count
 deep-none s o c n e zero d = n (omega arith)
 deep-none [] o c n e (suc k) d = n (omega arith)
 deep-none (b ∷ s) o c n e (suc k) d =
-    let x = nor (ltb (64 + (c + isByte 41 b)) (o + isByte 40 b)) _ e in
-    deep-none s (o + isByte 40 b) (c + isByte 41 b) (λ h. omega (arith, ltb-false (64 + (c + isByte 41 b)) (o + isByte 40 b) (x .0))) (x .1) k
+    let x = nor (ltb (mostOpen + (c + isByte 41 b)) (o + isByte 40 b)) _ e in
+    deep-none s (o + isByte 40 b) (c + isByte 41 b) (λ h. omega (arith, ltb-false (mostOpen + (c + isByte 41 b)) (o + isByte 40 b) (x .0))) (x .1) k
     (omega (arith, count-first 40 b (take k s), count-first 41 b (take k s)))
 
 module _ (s : List ℕ) where
@@ -53,19 +54,19 @@ module _ (s : List ℕ) where
   not-deep : deepAfter 0 0 s ≡ false → TooDeep s → ⊥
   not-deep e (k, d) = deep-none s 0 0 (λ h. omega arith) e k (omega arith)
 
-  bad-length : eqb (length s) 0 || ltb 4096 (length s) ≡ true → BadLength s
-  bad-length e = go (T-or (eqb (length s) 0) (ltb 4096 (length s)) (true-T e))
+  bad-length : eqb (length s) 0 || ltb mostBytes (length s) ≡ true → BadLength s
+  bad-length e = go (T-or (eqb (length s) 0) (ltb mostBytes (length s)) (true-T e))
     where
-      go : T (eqb (length s) 0) ⊎ T (ltb 4096 (length s)) → BadLength s
+      go : T (eqb (length s) 0) ⊎ T (ltb mostBytes (length s)) → BadLength s
       go (inl h) = inl (eqb-true _ _ (T-true _ h))
       go (inr h) = inr (ltb-true _ _ (T-true _ h))
 
-  good-length : eqb (length s) 0 || ltb 4096 (length s) ≡ false → BadLength s → ⊥
-  good-length e b = go (nor (eqb (length s) 0) (ltb 4096 (length s)) e) b
+  good-length : eqb (length s) 0 || ltb mostBytes (length s) ≡ false → BadLength s → ⊥
+  good-length e b = go (nor (eqb (length s) 0) (ltb mostBytes (length s)) e) b
     where
-      go : (eqb (length s) 0 ≡ false) × (ltb 4096 (length s) ≡ false) → BadLength s → ⊥
+      go : (eqb (length s) 0 ≡ false) × (ltb mostBytes (length s) ≡ false) → BadLength s → ⊥
       go (x, y) (inl h) = eqb-false _ _ x h
-      go (x, y) (inr h) = omega (arith, ltb-false 4096 (length s) y)
+      go (x, y) (inr h) = omega (arith, ltb-false mostBytes (length s) y)
 
   module _ (l : BadLength s → ⊥) (d : TooDeep s → ⊥) where
     tree-right : (o : Option Tree) → reading s ≡ o → Right s (judgeTree (fitting (wanted 0) (map classOf s)) o)
@@ -73,15 +74,15 @@ module _ (s : List ℕ) where
       where
         no-reading : {t : Tree} → none ≡ some t → ⊥
         no-reading q = let z : _≡_ {A = ℕ} 0 1 = cc in omega arith
-    tree-right (some t) e = by-cond (Right s) (ltb 64 (named (nodes t .table))) (refused 4 0) (accepted t)
+    tree-right (some t) e = by-cond (Right s) (ltb mostNames (named (nodes t .table))) (refused 4 0) (accepted t)
         (λ h. line-4 l d (reading-reads s t e) (ltb-true _ _ h))
-        (λ h. record { length-right = l; depth-right = d; reads = reading-reads s t e; size-right = λ z. omega (arith, ltb-false 64 (named (nodes t .table)) h) })
+        (λ h. record { length-right = l; depth-right = d; reads = reading-reads s t e; size-right = λ z. omega (arith, ltb-false mostNames (named (nodes t .table)) h) })
 
   -- For every text.
   pub judge-right : Right s (judge s)
   unfolding judge
   judge-right =
-      by-cond (Right s) (eqb (length s) 0 || ltb 4096 (length s)) _ _ (λ e. line-1 (bad-length e))
+      by-cond (Right s) (eqb (length s) 0 || ltb mostBytes (length s)) _ _ (λ e. line-1 (bad-length e))
       (λ e. by-cond (Right s) (deepAfter 0 0 s) _ _ (λ f. line-2 (good-length e) (deep f)) (λ f. tree-right (good-length e) (not-deep f) (reading s) refl))
 
   -- ---- and it is the only right judgement
@@ -92,7 +93,7 @@ module _ (s : List ℕ) where
   judge-reading : (BadLength s → ⊥) → (TooDeep s → ⊥) → (o : Option Tree) → reading s ≡ o → judge s ≡ judgeTree (fitting (wanted 0) (map classOf s)) o
   unfolding judge
   judge-reading l d o e =
-      by-cond (λ (j : Judgement). j ≡ judgeTree (fitting (wanted 0) (map classOf s)) o) (eqb (length s) 0 || ltb 4096 (length s)) _ _ (λ t. absurd (l (bad-length t)))
+      by-cond (λ (j : Judgement). j ≡ judgeTree (fitting (wanted 0) (map classOf s)) o) (eqb (length s) 0 || ltb mostBytes (length s)) _ _ (λ t. absurd (l (bad-length t)))
       (λ t. by-cond (λ (j : Judgement). j ≡ judgeTree (fitting (wanted 0) (map classOf s)) o) (deepAfter 0 0 s) _ _ (λ f. absurd (d (deep f))) (λ f. rw e))
 
   not-read : ((t : Tree) → reading s ≡ some t → ⊥) → reading s ≡ none
@@ -105,13 +106,13 @@ module _ (s : List ℕ) where
   pub judge-only : (j : Judgement) → Right s j → judge s ≡ j
   unfolding judge
   judge-only (refused number place) (line-1 b) =
-      by-cond (λ (j : Judgement). j ≡ refused 1 0) (eqb (length s) 0 || ltb 4096 (length s)) _ _ (λ t. refl) (λ t. absurd (good-length t b))
+      by-cond (λ (j : Judgement). j ≡ refused 1 0) (eqb (length s) 0 || ltb mostBytes (length s)) _ _ (λ t. refl) (λ t. absurd (good-length t b))
   judge-only (refused number place) (line-2 l d) =
-      by-cond (λ (j : Judgement). j ≡ refused 2 0) (eqb (length s) 0 || ltb 4096 (length s)) _ _ (λ t. absurd (l (bad-length t)))
+      by-cond (λ (j : Judgement). j ≡ refused 2 0) (eqb (length s) 0 || ltb mostBytes (length s)) _ _ (λ t. absurd (l (bad-length t)))
       (λ t. by-cond (λ (j : Judgement). j ≡ refused 2 0) (deepAfter 0 0 s) _ _ (λ f. refl) (λ f. absurd (not-deep f d)))
   judge-only (refused number place) (line-3 l d n x) =
       judge-reading l d none (not-read (λ t e. n (t, reading-reads s t e))) ∙ ap (refused 3) (longest-one _ _ (longest s) x)
   judge-only (refused number place) (line-4 {t} l d r z) =
-      judge-reading l d (some t) (reading-of s t r) ∙ rw (lt-ltb 64 (named (nodes t .table)) z)
+      judge-reading l d (some t) (reading-of s t r) ∙ rw (lt-ltb mostNames (named (nodes t .table)) z)
   judge-only (accepted t) a =
-      judge-reading (a .length-right) (a .depth-right) (some t) (reading-of s t (a .reads)) ∙ rw (le-ltb 64 (named (nodes t .table)) (omega (arith, a .size-right)))
+      judge-reading (a .length-right) (a .depth-right) (some t) (reading-of s t (a .reads)) ∙ rw (le-ltb mostNames (named (nodes t .table)) (omega (arith, a .size-right)))

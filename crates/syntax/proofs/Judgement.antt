@@ -9,10 +9,10 @@ use lib.ListN.{length, drop}
 use Rattle.syntax.specs.Class.{Class, tokens, after}
 use Rattle.syntax.specs.Grammar.{implication, Reads, Parses}
 use Rattle.syntax.specs.Nodes.{Entry, Named, withTree, nodes}
-use Rattle.syntax.specs.Refusal.{BadLength, TooDeep, Longest, Refused, line-2, line-3, line-4, Decides}
+use Rattle.syntax.specs.Refusal.{mostBytes, BadLength, TooDeep, Longest, mostNames, Refused, line-2, line-3, line-4, Decides}
 use Rattle.syntax.specs.Scan.{had, move, Scanned, scanned}
 use Rattle.syntax.specs.Size.{sizeOf}
-use Rattle.syntax.specs.Parts.{held, Empty}
+use Rattle.syntax.specs.Parts.{held, room, Empty}
 use Rattle.syntax.specs.Descent.{rest, headCode, Wanted, Asks, Gives}
 use Rattle.syntax.specs.Answer.{Read, AnswersWith, Answers, Refuses}
 use Rattle.syntax.specs.declared.Outcome.{Outcome}
@@ -39,7 +39,7 @@ module _ (s : List ℕ) where
   answer-refused n place r x k = subst (λ (o : Outcome). AnswersWith s o (r .parts)) (sym (k .outcome-is)) (x, k .empty)
 
   -- Line 1.
-  pub length-right : (length s ≡ 0 → ⊥) → length s ≤ 4096 → BadLength s → ⊥
+  pub length-right : (length s ≡ 0 → ⊥) → length s ≤ mostBytes → BadLength s → ⊥
   length-right a b (inl e) = a e
   length-right a b (inr h) = omega arith
 
@@ -62,18 +62,18 @@ module _ (s : List ℕ) where
 
       module _ (w : scanned s ≡ had 0) (n : ℕ) (m : n ≡ sizeOf s) where
         -- Line 4.
-        pub refused-large : 64 < n → Refused s 4 0
+        pub refused-large : mostNames < n → Refused s 4 0
         refused-large h =
             let x = scanned-formula s w in
             line-4 l f (x .1) (omega (arith, size-named s (x .0) (x .1)))
 
-        pub accepted : n ≤ 64 → (p : Parts) → Empty p → (r : Parsed) → Gives implication s 0 p r → Read s (r .root) (r .parts)
+        pub accepted : n ≤ mostNames → (p : Parts) → Empty p → (r : Parsed) → Gives implication s 0 p r → Read s (r .root) (r .parts)
         unfolding nodes
         accepted h p e r g =
             let reads : Reads s (g .operand .tree) = subst (λ (u : List Class). Parses implication u (g .operand .tree)) whole (g .operand .parsed) in
             let size = size-named s (g .operand .tree) reads in
             let none : withTree (held p) (g .operand .tree) ≡ nodes (g .operand .tree) = ap (λ (T : List Entry). withTree T (g .operand .tree)) (e .none) in
-            let fits : length (withTree (held p) (g .operand .tree) .table) ≤ 65 = subst (λ (x : Named). length (x .table) ≤ 65) (sym none) (has-room (g .operand .tree) (omega arith)) in
+            let fits : length (withTree (held p) (g .operand .tree) .table) ≤ room = subst (λ (x : Named). length (x .table) ≤ room) (sym none) (has-room (g .operand .tree) (omega arith)) in
             record {
               tree = g .operand .tree;
               sound = g .operand .holds .sound;

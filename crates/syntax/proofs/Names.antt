@@ -1,5 +1,5 @@
 -- Letters and names: the count over the tokens is that of the table, and a table has at most one row more, for ⊥.
-use mathlib.Core.Bool.{Bool, true, false, cond}
+use mathlib.Core.Bool.{Bool, true, false, cond, _||_}
 use mathlib.Core.List.{List, [], _∷_, _++_}
 use mathlib.Core.Path.{_≡_, refl, sym, _∙_, ap}
 use Prim.Native.Nat.{ℕ, suc, _+_, _≤_, _<_}
@@ -14,6 +14,8 @@ use Rattle.syntax.specs.Class.{Class, foreign, closing, ampersand, bar, 
 use Rattle.syntax.specs.Grammar as grammar
 use Rattle.syntax.specs.Grammar.{Tree, Level, Parses, a-letter, a-falsum, by-not, inside, no-and, by-and, no-or, by-or, no-implies, by-implies, by-equal, Reads}
 use Rattle.syntax.specs.Nodes.{Connective, And, Or, Implies, Entry, letter, falsum, compound, sameLeaf, leafAt, withLeaf, withCompound, withEquivalence, withTree, nodes, named}
+use Rattle.syntax.specs.Refusal.{mostNames}
+use Rattle.syntax.specs.Parts.{room}
 use Rattle.syntax.specs.Size.{Size, stands, withNames, withLetter, counted, total, uncounted, sizeOf}
 use Rattle.syntax.proofs.Class.{after-append, after-tokens}
 use Rattle.syntax.proofs.Growth.{tree-keeps}
@@ -75,12 +77,16 @@ equivalence-row T a b =
     ∙ ap (λ (n : ℕ). record { letters = lettersIn T; names = n }) (omega arith)
 
 -- A letter is found again exactly where it stands already.
-letter-found : (T : List Entry) (l : ℕ) → (leafAt (letter l) T < length T → stands l (lettersIn T) ≡ true) × (length T ≤ leafAt (letter l) T → stands l (lettersIn T) ≡ false)
+abbrev Found : ℕ → ℕ → Bool → Type 0
+Found at rows stood = (at < rows → stood ≡ true) × (rows ≤ at → stood ≡ false)
+
+letter-found : (T : List Entry) (l : ℕ) → Found (leafAt (letter l) T) (length T) (stands l (lettersIn T))
 unfolding leafAt sameLeaf lettersIn any
 letter-found [] l = (λ h. absurd (omega arith), λ h. refl)
 letter-found (letter k ∷ T) l = go (eqb k l) (letter-found T l)
   where
-    go : (t : Bool) → (leafAt (letter l) T < length T → stands l (lettersIn T) ≡ true) × (length T ≤ leafAt (letter l) T → stands l (lettersIn T) ≡ false) → (cond t 0 (suc (leafAt (letter l) T)) < suc (length T) → mathlib.Core.Bool._||_ t (stands l (lettersIn T)) ≡ true) × (suc (length T) ≤ cond t 0 (suc (leafAt (letter l) T)) → mathlib.Core.Bool._||_ t (stands l (lettersIn T)) ≡ false)
+    go : (t : Bool) → Found (leafAt (letter l) T) (length T) (stands l (lettersIn T))
+        → Found (cond t 0 (suc (leafAt (letter l) T))) (suc (length T)) (t || stands l (lettersIn T))
     go true ih = (λ h. refl, λ h. absurd (omega arith))
     go false ih = (λ h. ih .0 (omega arith), λ h. ih .1 (omega arith))
 letter-found (falsum ∷ T) l = let ih = letter-found T l in (λ h. ih .0 (omega arith), λ h. ih .1 (omega arith))
@@ -135,22 +141,32 @@ size-tree (by-not {u} {p} r) T =
     compound-row (withLeaf (a .table) falsum .table) Implies (a .root) (withLeaf (a .table) falsum .root)
     ∙ ap (withNames 1) (falsum-leaf (a .table) ∙ size-tree r T) ∙ sym (names-before 1 u (sizeIn T))
 size-tree (inside {u} r) T =
-    size-tree r T ∙ sym (after-append counted (withNames 0 (sizeIn T)) u (closing ∷ []) ∙ no-names (after counted (withNames 0 (sizeIn T)) u) ∙ ap (λ (y : Size). after counted y u) (no-names (sizeIn T)))
+    let z = withNames 0 (sizeIn T) in
+    size-tree r T
+    ∙ sym (after-append counted z u (closing ∷ []) ∙ no-names (after counted z u) ∙ ap (λ (y : Size). after counted y u) (no-names (sizeIn T)))
 size-tree (no-and r) T = size-tree r T
 size-tree (by-and {u} {v} {p} {q} r s) T =
     let a = withTree T p in let b = withTree (a .table) q in
-    compound-row (b .table) And (a .root) (b .root) ∙ ap (withNames 1) (size-tree s (a .table) ∙ ap (λ (y : Size). after counted y v) (size-tree r T)) ∙ sym (binary-counted (sizeIn T) u v ampersand 1 (λ y. refl))
+    compound-row (b .table) And (a .root) (b .root)
+    ∙ ap (withNames 1) (size-tree s (a .table) ∙ ap (λ (y : Size). after counted y v) (size-tree r T))
+    ∙ sym (binary-counted (sizeIn T) u v ampersand 1 (λ y. refl))
 size-tree (no-or r) T = size-tree r T
 size-tree (by-or {u} {v} {p} {q} r s) T =
     let a = withTree T p in let b = withTree (a .table) q in
-    compound-row (b .table) Or (a .root) (b .root) ∙ ap (withNames 1) (size-tree s (a .table) ∙ ap (λ (y : Size). after counted y v) (size-tree r T)) ∙ sym (binary-counted (sizeIn T) u v bar 1 (λ y. refl))
+    compound-row (b .table) Or (a .root) (b .root)
+    ∙ ap (withNames 1) (size-tree s (a .table) ∙ ap (λ (y : Size). after counted y v) (size-tree r T))
+    ∙ sym (binary-counted (sizeIn T) u v bar 1 (λ y. refl))
 size-tree (no-implies r) T = size-tree r T
 size-tree (by-implies {u} {v} {p} {q} r s) T =
     let a = withTree T p in let b = withTree (a .table) q in
-    compound-row (b .table) Implies (a .root) (b .root) ∙ ap (withNames 1) (size-tree s (a .table) ∙ ap (λ (y : Size). after counted y v) (size-tree r T)) ∙ sym (binary-counted (sizeIn T) u v greater 1 (λ y. refl))
+    compound-row (b .table) Implies (a .root) (b .root)
+    ∙ ap (withNames 1) (size-tree s (a .table) ∙ ap (λ (y : Size). after counted y v) (size-tree r T))
+    ∙ sym (binary-counted (sizeIn T) u v greater 1 (λ y. refl))
 size-tree (by-equal {u} {v} {p} {q} r s) T =
     let a = withTree T p in let b = withTree (a .table) q in
-    equivalence-row (b .table) (a .root) (b .root) ∙ ap (withNames 3) (size-tree s (a .table) ∙ ap (λ (y : Size). after counted y v) (size-tree r T)) ∙ sym (binary-counted (sizeIn T) u v equals 3 (λ y. refl))
+    equivalence-row (b .table) (a .root) (b .root)
+    ∙ ap (withNames 3) (size-tree s (a .table) ∙ ap (λ (y : Size). after counted y v) (size-tree r T))
+    ∙ sym (binary-counted (sizeIn T) u v equals 3 (λ y. refl))
 
 -- The count over the bytes is the number of letters and names.
 pub size-named : (s : List ℕ) (t : Tree) → Reads s t → sizeOf s ≡ named (nodes t .table)
@@ -201,7 +217,7 @@ once-row T (letter l) n h = rw (other-row T (letter l) refl) h
 once-row T falsum n h = omega (arith, falsum-last T, falsum-absent T n)
 once-row T (compound c a b) n h = rw (other-row T (compound c a b) refl) h
 
--- 64 letters and names, and ⊥, have room.
-pub has-room : (t : Tree) → named (nodes t .table) ≤ 64 → length (nodes t .table) ≤ 65
+-- The letters and names that a text may have, and ⊥, have room.
+pub has-room : (t : Tree) → named (nodes t .table) ≤ mostNames → length (nodes t .table) ≤ room
 unfolding nodes falsums
 has-room t h = omega (arith, rows (withTree [] t .table), tree-keeps Once once-row t [] (omega arith))

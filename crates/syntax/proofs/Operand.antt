@@ -3,19 +3,23 @@ use mathlib.Core.List.{List, [], _∷_, _++_, append-assoc}
 use mathlib.Core.Logic.{_⊎_, inl, inr}
 use mathlib.Core.Path.{_≡_, refl, sym, _∙_, ap, subst}
 use Prim.Native.Nat.{ℕ, suc, _-_, _≤_, _<_}
+use native.Mathlib.Decide.{decLe}
 use native.Mathlib.Omega.{arith}
+use borrow.Author.Tests.{eq-eqb, ne-eqb}
 use lib.ListN.{length, drop}
 use Rattle.syntax.specs.Class.{Class, closing, blank, tilde, opening, nought, lowercase, after}
+use Rattle.syntax.specs.Code.{codeOf, decode}
 use Rattle.syntax.specs.Grammar as grammar
-use Rattle.syntax.specs.Grammar.{Tree, Level, negation, conjunction, disjunction, implication, Parses, a-letter, a-falsum, by-not, inside, no-and, by-and, no-or, by-or, no-implies, by-implies, by-equal}
+use Rattle.syntax.specs.Grammar.{Tree, Level, negation, conjunction, disjunction, implication, Parses, a-letter, a-falsum}
+use Rattle.syntax.specs.Grammar.{by-not, inside, no-and, by-and, no-or, by-or, no-implies, by-implies, by-equal}
 use Rattle.syntax.specs.Nodes.{Connective, And, Or, Implies, Entry, falsum, Named, withLeaf, withCompound, withEquivalence, withTree}
 use Rattle.syntax.specs.Scan.{State, wanted, had, move}
 use Rattle.syntax.specs.Parts.{held, Holds, withNegation}
-use Rattle.syntax.specs.Descent.{rest, headCode, NextToken, Wanted, Operand, Stops}
+use Rattle.syntax.specs.Descent.{rest, headCode, leafOf, withJoined, NextToken, Wanted, Operand, Stops, Gives}
 use Rattle.syntax.specs.declared.Parts.{Parts}
 use Rattle.syntax.specs.declared.bytes.Token.{Token}
 use Rattle.syntax.specs.declared.table.Parsed.{Parsed}
-use Rattle.syntax.proofs.Class.{decode, no-blank, after-append}
+use Rattle.syntax.proofs.Class.{no-blank, after-append}
 use Rattle.syntax.proofs.Position.{head-is, head-letter}
 use Rattle.syntax.proofs.Held.{Fits, held-as, grows, compound-grows, leaf-grows, equivalence-grows}
 use Rattle.syntax.proofs.Run.{parse-runs, begins-operand, ends-or-closes}
@@ -23,13 +27,16 @@ use Rattle.syntax.proofs.Run.{parse-runs, begins-operand, ends-or-close
 -- ---- what is held
 
 -- A step W over the tables that are held is the same step over those that they stand for.
-holds-unary : (n : Named) (r : Parsed) (W : List Entry → ℕ → Named) → ((T : List Entry) (a : ℕ) → length T ≤ length (W T a .table)) → (o : Parsed) → Holds n r → Holds (W (held (r .parts)) (r .root)) o → Holds (W (n .table) (n .root)) o
+holds-unary : (n : Named) (r : Parsed) (W : List Entry → ℕ → Named) → ((T : List Entry) (a : ℕ) → length T ≤ length (W T a .table)) → (o : Parsed) → Holds n r
+    → Holds (W (held (r .parts)) (r .root)) o → Holds (W (n .table) (n .root)) o
 holds-unary n r W g o h k = held-as (W (held (r .parts)) (r .root)) (W (n .table) (n .root)) o same k
   where
     same : Fits (W (n .table) (n .root)) → W (held (r .parts)) (r .root) ≡ W (n .table) (n .root)
     same w = let f : Fits n = omega (arith, g (n .table) (n .root)) in rw (h .table f, h .root f)
 
-holds-binary : (T : List Entry) (p q : Tree) (l r : Parsed) (W : List Entry → ℕ → ℕ → Named) → ((U : List Entry) (a b : ℕ) → length U ≤ length (W U a b .table)) → (o : Parsed) → Holds (withTree T p) l → Holds (withTree (held (l .parts)) q) r → Holds (W (held (r .parts)) (l .root) (r .root)) o → Holds (W (withTree (withTree T p .table) q .table) (withTree T p .root) (withTree (withTree T p .table) q .root)) o
+holds-binary : (T : List Entry) (p q : Tree) (l r : Parsed) (W : List Entry → ℕ → ℕ → Named) → ((U : List Entry) (a b : ℕ) → length U ≤ length (W U a b .table))
+    → (o : Parsed) → Holds (withTree T p) l → Holds (withTree (held (l .parts)) q) r → Holds (W (held (r .parts)) (l .root) (r .root)) o
+    → Holds (W (withTree (withTree T p .table) q .table) (withTree T p .root) (withTree (withTree T p .table) q .root)) o
 holds-binary T p q l r W g o h i k = held-as (W (held (r .parts)) (l .root) (r .root)) (W (b .table) (a .root) (b .root)) o same k
   where
     a : Named
@@ -61,13 +68,22 @@ module _ (s : List ℕ) (at : ℕ) where
       ∙ w .fits
 
   -- An operator wants another.
-  pub wanted-after : {k : Level} {p : Parts} {r : Parsed} → Wanted s at → Operand k s at p r → (t : Token) → NextToken s (r .next) t → (n : ℕ) → ((d : ℕ) → move (had d) (decode n) ≡ wanted d) → 0 < n → t .class ≡ n → Wanted s (t .next)
+  pub wanted-after : {k : Level} {p : Parts} {r : Parsed} → Wanted s at → Operand k s at p r → (t : Token) → NextToken s (r .next) t → (n : ℕ)
+      → ((d : ℕ) → move (had d) (decode n) ≡ wanted d) → 0 < n → t .class ≡ n → Wanted s (t .next)
   unfolding after
   wanted-after {r = r} w o t k n op z e = record {
     depth = w .depth;
     fits = ap (λ (x : State). after move x (rest s (t .next))) (sym (op (w .depth))) ∙ sym (ap (after move (had (w .depth))) (head-is s (r .next) t k n e z)) ∙ past w o;
     inside = k .inside;
   }
+
+  pub wanted-side : {k : Level} {p : Parts} {r : Parsed} → Wanted s at → Operand k s at p r → (t : Token) → NextToken s (r .next) t → 4 ≤ t .class → t .class < 6
+      → Wanted s (t .next)
+  unfolding move
+  wanted-side w o t k least most = elim (decLe (t .class) 4) [
+    | yes few ↦ wanted-after w o t k 4 (λ d. refl) (omega arith) (omega arith)
+    | no many ↦ wanted-after w o t k 5 (λ d. refl) (omega arith) (omega arith)
+  ]
 
   module _ (t : Token) (k : NextToken s at t) where
     pub wanted-not : Wanted s at → t .class ≡ 7 → Wanted s (t .next)
@@ -89,12 +105,16 @@ module _ (s : List ℕ) (at : ℕ) (p : Parts) where
       (rule : (u v : List Class) (x y : Tree) → Parses a u x → Parses b v y → Parses k (u ++ (decode n ∷ v)) (f x y))
       (means : (T : List Entry) (x y : Tree) → withTree T (f x y) ≡ W (withTree (withTree T x .table) y .table) (withTree T x .root) (withTree (withTree T x .table) y .root))
       (more : (U : List Entry) (i j : ℕ) → length U ≤ length (W U i j .table)) (z : 0 < n) where
-    joined : (l : Parsed) (t : Token) (r o : Parsed) → Operand a s at p l → NextToken s (l .next) t → t .class ≡ n → Operand b s (t .next) (l .parts) r → o .next ≡ r .next → Holds (W (held (r .parts)) (l .root) (r .root)) o → Operand k s at p o
+    joined : (l : Parsed) (t : Token) (r o : Parsed) → Operand a s at p l → NextToken s (l .next) t → t .class ≡ n → Operand b s (t .next) (l .parts) r
+        → o .next ≡ r .next → Holds (W (held (r .parts)) (l .root) (r .root)) o → Operand k s at p o
     joined l t r o x c e y m h = record {
       text = x .text ++ (decode n ∷ y .text);
       tree = f (x .tree) (y .tree);
       parsed = rule (x .text) (y .text) (x .tree) (y .tree) (x .parsed) (y .parsed);
-      split = x .split ∙ ap (λ (q : List Class). x .text ++ q) (head-is s (l .next) t c n e z ∙ ap (λ (q : List Class). decode n ∷ q) (y .split ∙ ap (λ (i : ℕ). y .text ++ rest s i) (sym m))) ∙ sym (append-assoc (x .text) (decode n ∷ y .text) (rest s (o .next)));
+      split =
+          x .split
+          ∙ ap (λ (q : List Class). x .text ++ q) (head-is s (l .next) t c n e z ∙ ap (λ (q : List Class). decode n ∷ q) (y .split ∙ ap (λ (i : ℕ). y .text ++ rest s i) (sym m)))
+          ∙ sym (append-assoc (x .text) (decode n ∷ y .text) (rest s (o .next)));
       forward = omega (arith, x .forward, c .forward (omega arith), y .forward);
       inside = omega (arith, y .inside);
       holds = rw (means (held p) (x .tree) (y .tree)) (holds-binary (held p) (x .tree) (y .tree) l r W more o (x .holds) (y .holds) h);
@@ -104,21 +124,35 @@ module _ (s : List ℕ) (at : ℕ) (p : Parts) where
   compound-more c U i j = omega (arith, compound-grows U c i j)
 
   module _ (l : Parsed) (t : Token) (r o : Parsed) where
-    pub joined-and : Operand conjunction s at p l → NextToken s (l .next) t → t .class ≡ 2 → Operand negation s (t .next) (l .parts) r → o .next ≡ r .next → Holds (withCompound (held (r .parts)) And (l .root) (r .root)) o → Operand conjunction s at p o
+    pub joined-and : Operand conjunction s at p l → NextToken s (l .next) t → t .class ≡ 2 → Operand negation s (t .next) (l .parts) r → o .next ≡ r .next
+        → Holds (withCompound (held (r .parts)) And (l .root) (r .root)) o → Operand conjunction s at p o
     unfolding withTree
     joined-and = joined conjunction negation conjunction 2 grammar.and (λ T i j. withCompound T And i j) (λ u v x y. by-and) (λ T x y. refl) (compound-more And) (omega arith) l t r o
 
-    pub joined-or : Operand disjunction s at p l → NextToken s (l .next) t → t .class ≡ 3 → Operand conjunction s (t .next) (l .parts) r → o .next ≡ r .next → Holds (withCompound (held (r .parts)) Or (l .root) (r .root)) o → Operand disjunction s at p o
+    pub joined-or : Operand disjunction s at p l → NextToken s (l .next) t → t .class ≡ 3 → Operand conjunction s (t .next) (l .parts) r → o .next ≡ r .next
+        → Holds (withCompound (held (r .parts)) Or (l .root) (r .root)) o → Operand disjunction s at p o
     unfolding withTree
     joined-or = joined disjunction conjunction disjunction 3 grammar.or (λ T i j. withCompound T Or i j) (λ u v x y. by-or) (λ T x y. refl) (compound-more Or) (omega arith) l t r o
 
-    pub joined-implies : Operand disjunction s at p l → NextToken s (l .next) t → t .class ≡ 4 → Operand implication s (t .next) (l .parts) r → o .next ≡ r .next → Holds (withCompound (held (r .parts)) Implies (l .root) (r .root)) o → Operand implication s at p o
+    joined-implies : Operand disjunction s at p l → NextToken s (l .next) t → t .class ≡ 4 → Operand implication s (t .next) (l .parts) r → o .next ≡ r .next
+        → Holds (withCompound (held (r .parts)) Implies (l .root) (r .root)) o → Operand implication s at p o
     unfolding withTree
-    joined-implies = joined disjunction implication implication 4 grammar.implies (λ T i j. withCompound T Implies i j) (λ u v x y. by-implies) (λ T x y. refl) (compound-more Implies) (omega arith) l t r o
+    joined-implies =
+        joined disjunction implication implication 4 grammar.implies (λ T i j. withCompound T Implies i j) (λ u v x y. by-implies) (λ T x y. refl) (compound-more Implies)
+        (omega arith) l t r o
 
-    pub joined-equal : Operand disjunction s at p l → NextToken s (l .next) t → t .class ≡ 5 → Operand implication s (t .next) (l .parts) r → o .next ≡ r .next → Holds (withEquivalence (held (r .parts)) (l .root) (r .root)) o → Operand implication s at p o
+    joined-equal : Operand disjunction s at p l → NextToken s (l .next) t → t .class ≡ 5 → Operand implication s (t .next) (l .parts) r → o .next ≡ r .next
+        → Holds (withEquivalence (held (r .parts)) (l .root) (r .root)) o → Operand implication s at p o
     unfolding withTree
     joined-equal = joined disjunction implication implication 5 grammar.equal withEquivalence (λ u v x y. by-equal) (λ T x y. refl) equivalence-grows (omega arith) l t r o
+
+    -- `>` or `=`.
+    pub joined-sides : Operand disjunction s at p l → NextToken s (l .next) t → 4 ≤ t .class → t .class < 6 → Operand implication s (t .next) (l .parts) r → o .next ≡ r .next
+        → Holds (withJoined (t .class) (held (r .parts)) (l .root) (r .root)) o → Operand implication s at p o
+    joined-sides x k least most y m h = elim (decLe (t .class) 4) [
+      | yes few ↦ joined-implies x k (omega arith) y m (subst (λ (n : Named). Holds n o) (rw (ne-eqb (t .class) 5 (λ i. omega arith))) h)
+      | no many ↦ joined-equal x k (omega arith) y m (subst (λ (n : Named). Holds n o) (rw (eq-eqb (t .class) 5 (omega arith))) h)
+    ]
 
   -- An operand of one level is one of the next.
   raised : (a k : Level) → ((u : List Class) (x : Tree) → Parses a u x → Parses k u x) → (r : Parsed) → Operand a s at p r → Operand k s at p r
@@ -130,8 +164,13 @@ module _ (s : List ℕ) (at : ℕ) (p : Parts) where
   pub single-or : (r : Parsed) → Operand conjunction s at p r → Operand disjunction s at p r
   single-or = raised conjunction disjunction (λ u x. no-or)
 
-  pub single-implies : (r : Parsed) → Operand disjunction s at p r → Operand implication s at p r
-  single-implies = raised disjunction implication (λ u x. no-implies)
+  -- Neither `>` nor `=`.
+  pub single-implies : (r : Parsed) (t : Token) → Gives disjunction s at p r → NextToken s (r .next) t → (t .class ≡ 4 → ⊥) → (t .class ≡ 5 → ⊥) → Gives implication s at p r
+  unfolding codeOf
+  single-implies r t g k i e = record {
+    operand = raised disjunction implication (λ u x. no-implies) r (g .operand);
+    stops = (g .stops .0, g .stops .1, λ c. i (k .class-is ∙ c), λ c. e (k .class-is ∙ c));
+  }
 
   module _ (t : Token) (k : NextToken s at t) where
     pub negated : (r o : Parsed) → t .class ≡ 7 → Operand negation s (t .next) p r → o .next ≡ r .next → Holds (withNegation (held (r .parts)) (r .root)) o → Operand negation s at p o
@@ -149,16 +188,25 @@ module _ (s : List ℕ) (at : ℕ) (p : Parts) where
         negation-more : (T : List Entry) (a : ℕ) → length T ≤ length (withNegation T a .table)
         negation-more T a = let n = withLeaf T falsum in omega (arith, leaf-grows T falsum, compound-grows (n .table) Implies a (n .root))
 
-    pub parenthesized : (r : Parsed) (c : Token) → Wanted s at → t .class ≡ 8 → Operand implication s (t .next) p r → Stops implication (rest s (r .next)) → NextToken s (r .next) c → Operand negation s at p (record { next = c .next; root = r .root; parts = r .parts })
+    pub parenthesized : (r : Parsed) (c : Token) → Wanted s at → t .class ≡ 8 → Operand implication s (t .next) p r
+        → Stops implication (rest s (r .next)) → NextToken s (r .next) c
+        → Operand negation s at p (record { next = c .next; root = r .root; parts = r .parts })
     unfolding wanted-inside
     parenthesized r c w e x st q =
-        let closes : (1 ≡ headCode (rest s (r .next))) = closes-here (ends-or-closes (rest s (r .next)) (suc (w .depth)) (past s (t .next) (wanted-inside s at t k w e) x) (blank-free s (r .next)) st) in
+        let fits = past s (t .next) (wanted-inside s at t k w e) x in
+        let closes = closes-here (ends-or-closes (rest s (r .next)) (suc (w .depth)) fits (blank-free s (r .next)) st) in
         let ec : c .class ≡ 1 = q .class-is ∙ sym closes in
         record {
           text = opening ∷ (x .text ++ (closing ∷ []));
           tree = x .tree;
           parsed = inside (x .parsed);
-          split = head-is s at t k 8 e (omega arith) ∙ ap (λ (y : List Class). opening ∷ y) (x .split ∙ ap (λ (y : List Class). x .text ++ y) (head-is s (r .next) c q 1 ec (omega arith)) ∙ sym (append-assoc (x .text) (closing ∷ []) (rest s (c .next))));
+          split =
+              head-is s at t k 8 e (omega arith)
+              ∙ ap (λ (y : List Class). opening ∷ y) (
+              x .split
+              ∙ ap (λ (y : List Class). x .text ++ y) (head-is s (r .next) c q 1 ec (omega arith))
+              ∙ sym (append-assoc (x .text) (closing ∷ []) (rest s (c .next)))
+              );
           forward = omega (arith, k .forward (omega arith), x .forward, q .forward (omega arith));
           inside = q .inside;
           holds = record { sound = x .holds .sound; table = x .holds .table; root = x .holds .root };
@@ -168,7 +216,8 @@ module _ (s : List ℕ) (at : ℕ) (p : Parts) where
         closes-here (inl y) = absurd (omega (arith, y .1))
         closes-here (inr y) = y .0
 
-    leaf-operand : (c : Class) (x : Tree) → Parses negation (c ∷ []) x → rest s at ≡ c ∷ rest s (t .next) → 0 < t .class → (o : Parsed) → o .next ≡ t .next → Holds (withTree (held p) x) o → Operand negation s at p o
+    leaf-operand : (c : Class) (x : Tree) → Parses negation (c ∷ []) x → rest s at ≡ c ∷ rest s (t .next) → 0 < t .class → (o : Parsed) → o .next ≡ t .next
+        → Holds (withTree (held p) x) o → Operand negation s at p o
     leaf-operand c x r e z o m h = record {
       text = c ∷ [];
       tree = x;
@@ -179,10 +228,17 @@ module _ (s : List ℕ) (at : ℕ) (p : Parts) where
       holds = h;
     }
 
-    pub falsum-read : (o : Parsed) → t .class ≡ 9 → o .next ≡ t .next → Holds (withLeaf (held p) falsum) o → Operand negation s at p o
+    falsum-read : (o : Parsed) → t .class ≡ 9 → o .next ≡ t .next → Holds (withLeaf (held p) falsum) o → Operand negation s at p o
     unfolding withTree
     falsum-read o e m h = leaf-operand nought grammar.falsum a-falsum (head-is s at t k 9 e (omega arith)) (omega arith) o m h
 
-    pub letter-read : (o : Parsed) → 10 ≤ t .class → o .next ≡ t .next → Holds (withLeaf (held p) (Entry.letter (t .class - 10))) o → Operand negation s at p o
+    letter-read : (o : Parsed) → 10 ≤ t .class → o .next ≡ t .next → Holds (withLeaf (held p) (Entry.letter (t .class - 10))) o → Operand negation s at p o
     unfolding withTree
     letter-read o e m h = leaf-operand (lowercase (t .class - 10)) (grammar.letter (t .class - 10)) a-letter (head-letter s at t k e) (omega arith) o m h
+
+    -- ⊥ or a letter.
+    pub leaf-read : (o : Parsed) → 9 ≤ t .class → o .next ≡ t .next → Holds (withLeaf (held p) (leafOf (t .class))) o → Operand negation s at p o
+    leaf-read o l m h = elim (decLe (t .class) 9) [
+      | yes few ↦ falsum-read o (omega arith) m (subst (λ (x : Entry). Holds (withLeaf (held p) x) o) (rw (eq-eqb (t .class) 9 (omega arith))) h)
+      | no many ↦ letter-read o (omega arith) m (subst (λ (x : Entry). Holds (withLeaf (held p) x) o) (rw (ne-eqb (t .class) 9 (λ i. omega arith))) h)
+    ]

@@ -4,10 +4,11 @@ use mathlib.Core.Path.{_≡_, sym, _∙_, ap}
 use Prim.Native.Nat.{ℕ, _+_, _-_, _≤_, _<_}
 use native.Mathlib.Omega.{arith}
 use lib.ListN.{length, getD}
-use Rattle.syntax.specs.Class.{Class, lowercase, classOf, codeOf}
+use Rattle.syntax.specs.Class.{Class, lowercase, classOf}
+use Rattle.syntax.specs.Code.{codeOf, decode}
 use Rattle.syntax.specs.Descent.{rest, headCode, tail, NextToken}
 use Rattle.syntax.specs.declared.bytes.Token.{Token}
-use Rattle.syntax.proofs.Class.{decode, class-is, letter-is, rest-end, rest-token}
+use Rattle.syntax.proofs.Class.{class-is, letter-is, rest-end, rest-token}
 
 module _ (s : List ℕ) (at i : ℕ) (h : at ≤ i) (e : rest s i ≡ rest s at) where
   pub token-found : (class : ℕ) → i < length s → class ≡ codeOf (classOf (getD s i 0)) → (class ≡ 6 → ⊥) → NextToken s at (record { class = class; next = i + 1 })

@@ -4,7 +4,8 @@ use mathlib.Core.Logic.{_⊎_, inl, inr}
 use mathlib.Core.Path.{_≡_, refl, sym, _∙_, ap}
 use Prim.Native.Nat.{ℕ, zero, suc, _≤_, _<_}
 use native.Mathlib.Omega.{arith}
-use Rattle.syntax.specs.Class.{Class, foreign, closing, ampersand, bar, greater, equals, blank, tilde, opening, nought, lowercase, codeOf, after}
+use Rattle.syntax.specs.Class.{Class, foreign, closing, ampersand, bar, greater, equals, blank, tilde, opening, nought, lowercase, after}
+use Rattle.syntax.specs.Code.{codeOf}
 use Rattle.syntax.specs.Grammar.{Tree, Level, implication, Parses, a-letter, a-falsum, by-not, inside, no-and, by-and, no-or, by-or, no-implies, by-implies, by-equal}
 use Rattle.syntax.specs.Scan.{State, misfit, wanted, had, move}
 use Rattle.syntax.specs.Descent.{headCode, Stops}
@@ -46,7 +47,8 @@ begins-operand (nought ∷ l) d e n = omega arith
 begins-operand (lowercase k ∷ l) d e n = omega arith
 
 -- After an operand of the weakest level the text ends, or a parenthesis closes.
-pub ends-or-closes : (l : List Class) (d : ℕ) → after move (had d) l ≡ had 0 → ((c : Class) (r : List Class) → l ≡ c ∷ r → c ≡ blank → ⊥) → Stops implication l → ((l ≡ []) × (d ≡ 0)) ⊎ ((1 ≡ headCode l) × (0 < d))
+pub ends-or-closes : (l : List Class) (d : ℕ) → after move (had d) l ≡ had 0 → ((c : Class) (r : List Class) → l ≡ c ∷ r → c ≡ blank → ⊥) → Stops implication l
+    → ((l ≡ []) × (d ≡ 0)) ⊎ ((1 ≡ headCode l) × (0 < d))
 unfolding after move codeOf
 ends-or-closes [] d e n s = inl (refl, had-depth e)
   where

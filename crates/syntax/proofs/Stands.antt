@@ -15,7 +15,8 @@ use Rattle.atoms.proofs.Truth.{by-cond}
 use Rattle.ipl.specs.Formula.{Formula}
 use Rattle.syntax.specs.Grammar as grammar
 use Rattle.syntax.specs.Grammar.{Tree, opened}
-use Rattle.syntax.specs.Nodes.{Connective, And, Or, Implies, Entry, letter, falsum, compound, Named, sameLeaf, leafAt, withLeaf, withCompound, withEquivalence, withTree, nodes, connected, entryFormula, formulasAfter, formulaAt, Earlier, WellOrdered}
+use Rattle.syntax.specs.Nodes.{Connective, And, Or, Implies, Entry, letter, falsum, compound, Named, sameLeaf, leafAt, withLeaf, withCompound, withEquivalence}
+use Rattle.syntax.specs.Nodes.{withTree, nodes, connected, entryFormula, formulasAfter, formulaAt, Earlier, WellOrdered}
 
 formulas-snoc : (T : List Entry) (F : List Formula) (e : Entry) → formulasAfter F (T ++ (e ∷ [])) ≡ formulasAfter F T ++ (entryFormula (formulasAfter F T) e ∷ [])
 unfolding formulasAfter
@@ -33,11 +34,15 @@ size-is T = formulas-length T [] ∙ omega arith
 -- One row more: the others keep their formulas, and the new one has its own.
 row-kept : (T : List Entry) (e : Entry) (i : ℕ) → i < length T → formulaAt (T ++ (e ∷ [])) i ≡ formulaAt T i
 unfolding formulaAt
-row-kept T e i h = ap (λ (F : List Formula). getD F i Formula.falsum) (formulas-snoc T [] e) ∙ List·getD-append (formulasAfter [] T) (entryFormula (formulasAfter [] T) e ∷ []) Formula.falsum i (rw (size-is T) h)
+row-kept T e i h =
+    ap (λ (F : List Formula). getD F i Formula.falsum) (formulas-snoc T [] e)
+    ∙ List·getD-append (formulasAfter [] T) (entryFormula (formulasAfter [] T) e ∷ []) Formula.falsum i (rw (size-is T) h)
 
 row-new : (T : List Entry) (e : Entry) → formulaAt (T ++ (e ∷ [])) (length T) ≡ entryFormula (formulasAfter [] T) e
 unfolding formulaAt
-row-new T e = ap (λ (F : List Formula). getD F (length T) Formula.falsum) (formulas-snoc T [] e) ∙ getD-at (formulasAfter [] T) (entryFormula (formulasAfter [] T) e) [] Formula.falsum (length T) (size-is T)
+row-new T e =
+    ap (λ (F : List Formula). getD F (length T) Formula.falsum) (formulas-snoc T [] e)
+    ∙ getD-at (formulasAfter [] T) (entryFormula (formulasAfter [] T) e) [] Formula.falsum (length T) (size-is T)
 
 ordered-more : (T : List Entry) (e : Entry) → WellOrdered T → Earlier (length T) e → WellOrdered (T ++ (e ∷ []))
 ordered-more T e w h i l = elim (decLt i (length T)) [
@@ -95,7 +100,8 @@ entry-front T F (letter l) h = refl
 entry-front T F falsum h = refl
 entry-front T F (compound c a b) h = rw (formulas-front T F a (h .0), formulas-front T F b (h .1))
 
-row-at : (T : List Entry) (F : List Formula) (i : ℕ) → i < length T → Earlier (length F + i) (getD T i falsum) → getD (formulasAfter F T) (length F + i) Formula.falsum ≡ entryFormula (formulasAfter F T) (getD T i falsum)
+row-at : (T : List Entry) (F : List Formula) (i : ℕ) → i < length T → Earlier (length F + i) (getD T i falsum)
+    → getD (formulasAfter F T) (length F + i) Formula.falsum ≡ entryFormula (formulasAfter F T) (getD T i falsum)
 unfolding formulasAfter
 row-at [] F i l h = absurd (omega arith)
 row-at (x ∷ T) F zero l h =
@@ -126,7 +132,8 @@ leaf-found (x ∷ T) F e h = go (sameLeaf x e) refl (λ k. leaf-found T (F ++ (e
     size : length G ≡ suc (length F)
     size = length-append F (entryFormula F x ∷ []) ∙ add-one (length F)
 
-    go : (t : Bool) → sameLeaf x e ≡ t → (leafAt e T < length T → getD (formulasAfter G T) (length G + leafAt e T) Formula.falsum ≡ entryFormula [] e) → cond t 0 (suc (leafAt e T)) < suc (length T) → getD (formulasAfter G T) (length F + cond t 0 (suc (leafAt e T))) Formula.falsum ≡ entryFormula [] e
+    go : (t : Bool) → sameLeaf x e ≡ t → (leafAt e T < length T → getD (formulasAfter G T) (length G + leafAt e T) Formula.falsum ≡ entryFormula [] e)
+        → cond t 0 (suc (leafAt e T)) < suc (length T) → getD (formulasAfter G T) (length F + cond t 0 (suc (leafAt e T))) Formula.falsum ≡ entryFormula [] e
     go true q ih k =
         let z : length F + 0 ≡ length F = omega arith in
         ap (λ (i : ℕ). getD (formulasAfter G T) i Formula.falsum) z
@@ -185,9 +192,12 @@ module _ (T : List Entry) (a : Named) (p : Formula) (x : Stands T a p) (b : Name
   both-stand n r z = record { grown = omega (arith, x .grown, y .grown, z .grown); kept = then-kept n r z; ordered = z .ordered; inside = z .inside; is = z .is }
 
   compounded : (c : Connective) → Stands T (withCompound (b .table) c (a .root) (b .root)) (connected c p q)
-  compounded c = both-stand _ _ (subst (Stands (b .table) (withCompound (b .table) c (a .root) (b .root))) (rw (left-is, y .is)) (compound-stands (b .table) c (a .root) (b .root) (y .ordered) left-inside (y .inside)))
+  compounded c =
+      both-stand _ _
+      (subst (Stands (b .table) (withCompound (b .table) c (a .root) (b .root))) (rw (left-is, y .is)) (compound-stands (b .table) c (a .root) (b .root) (y .ordered) left-inside (y .inside)))
 
-equivalence-stands : (T : List Entry) (a b : ℕ) → WellOrdered T → a < length T → b < length T → Stands T (withEquivalence T a b) (connected And (connected Implies (formulaAt T a) (formulaAt T b)) (connected Implies (formulaAt T b) (formulaAt T a)))
+equivalence-stands : (T : List Entry) (a b : ℕ) → WellOrdered T → a < length T → b < length T
+    → Stands T (withEquivalence T a b) (connected And (connected Implies (formulaAt T a) (formulaAt T b)) (connected Implies (formulaAt T b) (formulaAt T a)))
 unfolding withEquivalence
 equivalence-stands T a b w h k =
     let x = compound-stands T Implies a b w h k in

@@ -6,7 +6,8 @@ use Prim.Native.Nat.{ℕ, suc}
 use native.Mathlib.Omega.{arith}
 use Rattle.syntax.specs.Class.{Class, foreign, closing, ampersand, bar, greater, equals, blank, tilde, opening, nought, lowercase, tokens, after}
 use Rattle.syntax.specs.Grammar as grammar
-use Rattle.syntax.specs.Grammar.{Tree, Level, negation, conjunction, disjunction, implication, Parses, a-letter, a-falsum, by-not, inside, no-and, by-and, no-or, by-or, no-implies, by-implies, by-equal, Reads}
+use Rattle.syntax.specs.Grammar.{Tree, Level, negation, conjunction, disjunction, implication, Parses, a-letter, a-falsum}
+use Rattle.syntax.specs.Grammar.{by-not, inside, no-and, by-and, no-or, by-or, no-implies, by-implies, by-equal, Reads}
 use Rattle.syntax.specs.Scan.{State, misfit, wanted, had, closed, move}
 use Rattle.syntax.specs.Reading.{Outer, top, paren, implied, equated, Reader, stuck, want, have, negated, joinLeft, operand, shut, finish, readToken, result, reading}
 use Rattle.syntax.proofs.Class.{after-append}

@@ -1,7 +1,7 @@
 -- The class of each byte (document 01: "A constant table of 256 entries gives each byte's class").
 use mathlib.Core.Bool.{cond, _&&_}
 use mathlib.Core.List.{List, [], _∷_}
-use Prim.Native.Nat.{ℕ, _+_, _-_}
+use Prim.Native.Nat.{ℕ, _-_}
 use lib.Dec.{eqb, leb}
 
 pub data Class : Type 0 where
@@ -31,17 +31,3 @@ tokens (b ∷ s) = cond (eqb b 32) (tokens s) (classOf b ∷ tokens s)
 unfoldable pub after : {A : Type 0} → (A → Class → A) → A → List Class → A
 after f a [] = a
 after f a (c ∷ l) = after f (f a c) l
-
--- The code's number of each class.
-unfoldable pub codeOf : Class → ℕ
-codeOf foreign = 0
-codeOf closing = 1
-codeOf ampersand = 2
-codeOf bar = 3
-codeOf greater = 4
-codeOf equals = 5
-codeOf blank = 6
-codeOf tilde = 7
-codeOf opening = 8
-codeOf nought = 9
-codeOf (lowercase l) = 10 + l

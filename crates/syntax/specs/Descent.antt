@@ -1,11 +1,14 @@
 -- What the functions of the descent ask and give. A position stands for the tokens from it on.
+use mathlib.Core.Bool.{cond}
 use mathlib.Core.List.{List, [], _∷_, _++_}
 use mathlib.Core.Path.{_≡_}
-use Prim.Native.Nat.{ℕ, _≤_, _<_}
+use Prim.Native.Nat.{ℕ, _-_, _≤_, _<_}
+use lib.Dec.{eqb}
 use lib.ListN.{length, drop}
-use Rattle.syntax.specs.Class.{Class, tokens, codeOf, after}
+use Rattle.syntax.specs.Class.{Class, ampersand, bar, greater, equals, tokens, after}
+use Rattle.syntax.specs.Code.{codeOf}
 use Rattle.syntax.specs.Grammar.{Tree, Level, negation, conjunction, disjunction, implication, Parses}
-use Rattle.syntax.specs.Nodes.{withTree}
+use Rattle.syntax.specs.Nodes.{Implies, Entry, letter, falsum, Named, withCompound, withEquivalence, withTree}
 use Rattle.syntax.specs.Scan.{move, wanted, had}
 use Rattle.syntax.specs.Parts.{held, Sound, Holds}
 use Rattle.syntax.specs.declared.Parts.{Parts}
@@ -23,6 +26,14 @@ headCode (c ∷ l) = codeOf c
 abbrev pub tail : List Class → List Class
 tail [] = []
 tail (c ∷ l) = l
+
+-- The leaf that a token of this class is: ⊥, or a letter.
+abbrev pub leafOf : ℕ → Entry
+leafOf class = cond (eqb class 9) falsum (letter (class - 10))
+
+-- The table with p > q or p = q, by the class of the token between them.
+abbrev pub withJoined : ℕ → List Entry → ℕ → ℕ → Named
+withJoined class T a b = cond (eqb class 5) (withEquivalence T a b) (withCompound T Implies a b)
 
 -- The first token from a position on, and the position after it.
 pub record NextToken (s : List ℕ) (at : ℕ) (t : Token) : Type 0 where
@@ -47,12 +58,15 @@ pub record Operand (k : Level) (s : List ℕ) (at : ℕ) (p : Parts) (r : Parsed
   pub inside : r .next ≤ length s
   pub holds : Holds (withTree (held p) tree) r
 
+abbrev pub NotNext : Class → List Class → Type 0
+NotNext c l = headCode l ≡ codeOf c → ⊥
+
 -- No operator of the level, or of one that binds tighter, comes next.
 abbrev pub Stops : Level → List Class → Type 0
 Stops negation l = Unit {0}
-Stops conjunction l = headCode l ≡ 2 → ⊥
-Stops disjunction l = (headCode l ≡ 2 → ⊥) × (headCode l ≡ 3 → ⊥)
-Stops implication l = (headCode l ≡ 2 → ⊥) × (headCode l ≡ 3 → ⊥) × (headCode l ≡ 4 → ⊥) × (headCode l ≡ 5 → ⊥)
+Stops conjunction l = NotNext ampersand l
+Stops disjunction l = NotNext ampersand l × NotNext bar l
+Stops implication l = NotNext ampersand l × NotNext bar l × NotNext greater l × NotNext equals l
 
 pub record Asks (s : List ℕ) (at : ℕ) (p : Parts) : Type 0 where
   pub wanted : Wanted s at

@@ -10,7 +10,7 @@ use Rattle.syntax.specs.Class.{classOf}
 use Rattle.syntax.specs.Grammar.{Tree}
 use Rattle.syntax.specs.Reading.{reading}
 use Rattle.syntax.specs.Nodes.{nodes, named}
-use Rattle.syntax.specs.Refusal.{Refused, Accepted}
+use Rattle.syntax.specs.Refusal.{mostBytes, mostOpen, mostNames, Refused, Accepted}
 use Rattle.syntax.specs.Scan.{wanted, fitting}
 
 pub data Judgement : Type 0 where
@@ -24,15 +24,15 @@ isByte x b = cond (eqb b x) 1 0
 unfoldable pub deepAfter : ℕ → ℕ → List ℕ → Bool
 deepAfter opened closed [] = false
 deepAfter opened closed (b ∷ s) =
-    ltb (64 + (closed + isByte 41 b)) (opened + isByte 40 b) || deepAfter (opened + isByte 40 b) (closed + isByte 41 b) s
+    ltb (mostOpen + (closed + isByte 41 b)) (opened + isByte 40 b) || deepAfter (opened + isByte 40 b) (closed + isByte 41 b) s
 
 abbrev pub judgeTree : ℕ → Option Tree → Judgement
 judgeTree place none = refused 3 place
-judgeTree place (some t) = cond (ltb 64 (named (nodes t .table))) (refused 4 0) (accepted t)
+judgeTree place (some t) = cond (ltb mostNames (named (nodes t .table))) (refused 4 0) (accepted t)
 
 unfoldable pub judge : List ℕ → Judgement
 judge s =
-    cond (eqb (length s) 0 || ltb 4096 (length s)) (refused 1 0)
+    cond (eqb (length s) 0 || ltb mostBytes (length s)) (refused 1 0)
     (cond (deepAfter 0 0 s) (refused 2 0) (judgeTree (fitting (wanted 0) (map classOf s)) (reading s)))
 
 abbrev pub Right : List ℕ → Judgement → Type 0

@@ -1,10 +1,12 @@
--- Definitions of the reader of formula text, in the order in which they build on each other. Class, Grammar, Nodes and Refusal are
--- what a reader must believe; Scan, Parts and Descent are the terms in which the code's parts speak to each other.
+-- Definitions of the reader of formula text, in the order in which they build on each other. Class, Grammar, Nodes, Refusal, Parts and
+-- Answer are what a reader must believe; Reading and Judge are proved to agree with them; in Code, Scan, Size and Descent the code's
+-- parts speak to each other.
 pub mod Class
 pub mod Grammar
 pub mod Reading
 pub mod Nodes
 pub mod Refusal
+pub mod Code
 pub mod Scan
 pub mod Size
 pub mod Parts

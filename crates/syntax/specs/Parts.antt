@@ -6,6 +6,7 @@ use Prim.Native.Nat.{ℕ, _+_, _≤_}
 use lib.Dec.{ltb}
 use lib.ListN.{length, take, set}
 use Rattle.syntax.specs.Nodes.{Connective, And, Or, Implies, Entry, letter, falsum, compound, Named, withLeaf, withCompound}
+use Rattle.syntax.specs.Refusal.{mostNames}
 use Rattle.syntax.specs.declared.Connective as declared
 use Rattle.syntax.specs.declared.Part.{Part}
 use Rattle.syntax.specs.declared.Part.the-variants.{Letter, Falsum, Compound}
@@ -27,9 +28,9 @@ entryOf (Compound c a b) = compound (connectiveOf c) a b
 abbrev pub held : Parts → List Entry
 held p = map (λ (n : Node). entryOf (n .part)) (take (p .count) (p .nodes))
 
--- 64 letters and names, and ⊥.
+-- The rows of the table of parts: letters and names, and ⊥.
 abbrev pub room : ℕ
-room = 65
+room = mostNames + 1
 
 pub record Sound (p : Parts) : Type 0 where
   pub sized : length (p .nodes) ≡ room

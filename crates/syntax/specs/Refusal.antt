@@ -10,8 +10,11 @@ use Rattle.syntax.specs.Grammar.{Tree, Reads, IsFormula, Begins}
 use Rattle.syntax.specs.Nodes.{nodes, named}
 
 -- "1: empty, or over 4,096 bytes"
+abbrev pub mostBytes : ℕ
+mostBytes = 4096
+
 abbrev pub BadLength : List ℕ → Type 0
-BadLength s = (length s ≡ 0) ⊎ (4096 < length s)
+BadLength s = (length s ≡ 0) ⊎ (mostBytes < length s)
 
 -- How often a byte stands in a text.
 unfoldable pub count : ℕ → List ℕ → ℕ
@@ -19,8 +22,11 @@ count x [] = 0
 count x (b ∷ s) = cond (eqb b x) (suc (count x s)) (count x s)
 
 -- "2: some beginning holds over 64 more `(` than `)`"
+abbrev pub mostOpen : ℕ
+mostOpen = 64
+
 abbrev pub TooDeepAt : List ℕ → ℕ → Type 0
-TooDeepAt s k = 64 + count 41 (take k s) < count 40 (take k s)
+TooDeepAt s k = mostOpen + count 41 (take k s) < count 40 (take k s)
 
 abbrev pub TooDeep : List ℕ → Type 0
 TooDeep s = (k : ℕ) × TooDeepAt s k
@@ -32,8 +38,11 @@ pub record Longest (s : List ℕ) (place : ℕ) : Type 0 where
   pub last : (k : ℕ) → k ≤ length s → Begins (take k s) → k ≤ place
 
 -- "4: letters and names together over 64"
+abbrev pub mostNames : ℕ
+mostNames = 64
+
 abbrev pub TooLarge : Tree → Type 0
-TooLarge t = 64 < named (nodes t .table)
+TooLarge t = mostNames < named (nodes t .table)
 
 -- The lines by their numbers.
 pub data Line (s : List ℕ) : ℕ → Type 0 where

@@ -1,9 +1,8 @@
 -- The one-pass scan for refusal 3: whether an operand is wanted next, and how many parentheses are open.
-use mathlib.Core.Bool.{Bool, true, false, cond}
+use mathlib.Core.Bool.{Bool, true, false}
 use mathlib.Core.List.{List, [], _∷_, map}
 use mathlib.Core.Path.{_≡_}
-use Prim.Native.Nat.{ℕ, zero, suc, _+_, _-_}
-use lib.Dec.{eqb, ltb}
+use Prim.Native.Nat.{ℕ, zero, suc}
 use Rattle.syntax.specs.Class.{Class, foreign, closing, ampersand, bar, greater, equals, blank, tilde, opening, nought, lowercase, classOf, after}
 use Rattle.syntax.specs.declared.passes.Turn.{Turn}
 use Rattle.syntax.specs.declared.passes.Turn.the-variants.{Misfit, Fits}
@@ -62,11 +61,6 @@ stateOf false d = had d
 abbrev pub turnState : Turn → State
 turnState Misfit = misfit
 turnState (Fits w d) = stateOf w d
-
--- The move by a class's number.
-abbrev pub turnBy : Bool → ℕ → ℕ → Turn
-turnBy true d n = cond (ltb n 6) Misfit (cond (ltb n 8) (Fits true d) (cond (eqb n 8) (Fits true (d + 1)) (Fits false d)))
-turnBy false d n = cond (eqb n 6) (Fits false d) (cond (eqb n 1) (cond (eqb d 0) Misfit (Fits false (d - 1))) (cond (eqb n 0) Misfit (cond (ltb n 6) (Fits true d) Misfit)))
 
 -- The scan of a whole text ends with no operand wanted and nothing open; or the first that does not fit.
 abbrev pub scanned : List ℕ → State

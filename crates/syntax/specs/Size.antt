@@ -1,14 +1,15 @@
 -- The count for refusal 4, over the tokens: letters in order of first standing, and names.
-use mathlib.Core.Bool.{Bool, cond}
+use mathlib.Core.Bool.{Bool, false, cond}
 use mathlib.Core.List.{List, [], _∷_, _++_, map}
 use mathlib.Core.Path.{_≡_}
 use Prim.Native.Nat.{ℕ, _+_, _≤_, _<_}
-use lib.Dec.{eqb, ltb}
+use lib.Dec.{eqb}
 use lib.ListN.{length}
 use Rattle.atoms.specs.Sets.{has, limit}
 use Rattle.atoms.specs.Words.{num}
 use Rattle.ipl.specs.Lists.{any}
-use Rattle.syntax.specs.Class.{Class, foreign, closing, ampersand, bar, greater, equals, blank, tilde, opening, nought, lowercase, classOf, codeOf, after}
+use Rattle.syntax.specs.Class.{Class, foreign, closing, ampersand, bar, greater, equals, blank, tilde, opening, nought, lowercase, classOf, after}
+use Rattle.syntax.specs.Code.{decode, isLetter}
 use Rattle.syntax.specs.declared.passes.Count.{Count}
 
 pub record Size : Type 0 where
@@ -47,9 +48,14 @@ uncounted = record { letters = []; names = 0 }
 unfoldable pub sizeOf : List ℕ → ℕ
 sizeOf s = total (after counted uncounted (map classOf s))
 
--- The names by a class's number.
-abbrev pub namesBy : ℕ → ℕ
-namesBy n = cond (eqb n 5) 3 (cond (eqb n 7) 1 (cond (ltb n 2) 0 (cond (ltb n 5) 1 0)))
+-- `=` is three parts: no byte brings more names.
+abbrev pub mostNamesOfByte : ℕ
+mostNamesOfByte = 3
+
+-- A class that is no letter brings k names.
+pub record Brings (class k : ℕ) : Type 0 where
+  pub counts : (z : Size) → isLetter (decode class) ≡ false → counted z (decode class) ≡ withNames k z
+  pub few : k ≤ mostNamesOfByte
 
 -- The code's count stands for z.
 pub record Counts (z : Size) (c : Count) : Type 0 where
@@ -58,5 +64,5 @@ pub record Counts (z : Size) (c : Count) : Type 0 where
 
 -- One class more.
 pub record CountsOn (c : Count) (class : ℕ) (r : Count) : Type 0 where
-  pub on : (z : Size) (x : Class) → class ≡ codeOf x → Counts z c → Counts (counted z x) r
-  pub grows : r .count ≤ c .count + 3
+  pub on : (z : Size) → Counts z c → Counts (counted z (decode class)) r
+  pub grows : r .count ≤ c .count + mostNamesOfByte

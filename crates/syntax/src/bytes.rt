@@ -3,7 +3,8 @@ use super::classes;
 ghost use mathlib.Core.Path.{_≡_};
 ghost use Prim.Native.Nat.{_≤_};
 ghost use lib.ListN.{length};
-ghost use Rattle.syntax.specs.Class.{classOf, codeOf};
+ghost use Rattle.syntax.specs.Class.{classOf};
+ghost use Rattle.syntax.specs.Code.{codeOf, decode, joins, isLetter, isLeaf};
 ghost use Rattle.syntax.specs.Descent.{NextToken};
 
 pub const FOREIGN: u8 = 0;
@@ -33,6 +34,33 @@ pub fn class_of(b: u8) -> u8
     ensures { λ r. ⌜ r ≡ codeOf (classOf b) ⌝ }
 {
     classes::CLASS[b as usize]
+}
+
+// `&`, `|`, `>` or `=`: it stands between two operands.
+pub fn is_binary(class: u8) -> bool
+    ensures { λ r. ⌜ r ≡ joins (decode class) ⌝ }
+{
+    match class {
+        AND | OR | IMPLIES | EQUALS => true,
+        _ => false,
+    }
+}
+
+pub fn is_letter(class: u8) -> bool
+    ensures { λ r. ⌜ r ≡ isLetter (decode class) ⌝ }
+{
+    LETTER <= class
+}
+
+// An operand by itself.
+pub fn is_leaf(class: u8) -> bool
+    ensures { λ r. ⌜ r ≡ isLeaf (decode class) ⌝ }
+{
+    if class == FALSUM {
+        true
+    } else {
+        is_letter(class)
+    }
 }
 
 pub struct Token {

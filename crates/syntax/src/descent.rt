@@ -1,14 +1,42 @@
 // The reader functions, one for each level of the grammar: they call one another through parentheses, and the bytes left fall.
-// The passes have judged the text, so an operand stands wherever one is wanted, at most 64 parentheses are open and at most 64
-// connectives follow: the depth of the calls is bounded.
+// The passes have judged the text, so an operand stands wherever one is wanted, and few parentheses are open and few connectives
+// follow: the depth of the calls is bounded. `leaf` and `joined` stand apart to keep the frames of the recursion small.
 use super::Connective;
 use super::Part;
 use super::Parts;
 use super::bytes;
 use super::table;
+use bytes::Token;
 use table::Parsed;
-ghost use Rattle.syntax.specs.Descent.{Asks, Gives};
+ghost use mathlib.Core.Path.{_≡_};
+ghost use Prim.Native.Nat.{_≤_};
+ghost use Rattle.syntax.specs.Nodes.{withLeaf};
+ghost use Rattle.syntax.specs.Parts.{held, Sound, Holds};
+ghost use Rattle.syntax.specs.Descent.{leafOf, withJoined, Asks, Gives};
 ghost use Rattle.syntax.specs.Grammar.{Level};
+
+// ⊥ or a letter, by its class.
+fn leaf(parts: Parts, t: Token) -> Parsed
+    requires { ⌜ (9 ≤ t .class) × Sound parts ⌝ }
+    ensures { λ r. ⌜ (r .next ≡ t .next) × Holds (withLeaf (held parts) (leafOf (t .class))) r ⌝ }
+{
+    if t.class == bytes::FALSUM {
+        return table::leaf(parts, Part::Falsum, t.next);
+    }
+    let letter = t.class - bytes::LETTER;
+    table::leaf(parts, Part::Letter(letter), t.next)
+}
+
+// p > q or p = q, by the class of the token between them.
+fn joined(class: u8, left: u8, right: Parsed) -> Parsed
+    requires { ⌜ Sound (right .parts) ⌝ }
+    ensures { λ r. ⌜ (r .next ≡ right .next) × Holds (withJoined class (held (right .parts)) left (right .root)) r ⌝ }
+{
+    if class == bytes::EQUALS {
+        return table::equivalence(left, right);
+    }
+    table::compound(Connective::Implies, left, right)
+}
 
 pub fn implication(s: &[u8], at: usize, parts: Parts) -> Parsed
     requires { ⌜ Asks (now s) at parts ⌝ }
@@ -16,15 +44,13 @@ pub fn implication(s: &[u8], at: usize, parts: Parts) -> Parsed
 {
     let left = disjunction(s, at, parts);
     let t = bytes::next_token(s, left.next);
-    if t.class == bytes::IMPLIES {
-        let right = implication(s, t.next, left.parts);
-        return table::compound(Connective::Implies, left.root, right);
+    match t.class {
+        bytes::IMPLIES | bytes::EQUALS => {
+            let right = implication(s, t.next, left.parts);
+            joined(t.class, left.root, right)
+        }
+        _ => left,
     }
-    if t.class == bytes::EQUALS {
-        let right = implication(s, t.next, left.parts);
-        return table::equivalence(left.root, right);
-    }
-    left
 }
 
 fn disjunction(s: &[u8], at: usize, parts: Parts) -> Parsed
@@ -66,17 +92,10 @@ fn negation(s: &[u8], at: usize, parts: Parts) -> Parsed
         return table::negation(negation(s, t.next, parts));
     }
     if t.class == bytes::OPENING {
-        let inner = implication(s, t.next, parts);
+        let mut inner = implication(s, t.next, parts);
         let close = bytes::next_token(s, inner.next);
-        let parts = inner.parts;
-        return Parsed {
-            next: close.next,
-            root: inner.root,
-            parts,
-        };
+        inner.next = close.next;
+        return inner;
     }
-    if t.class == bytes::FALSUM {
-        return table::leaf(parts, Part::Falsum, t.next);
-    }
-    table::leaf(parts, Part::Letter(t.class - bytes::LETTER), t.next)
+    leaf(parts, t)
 }

@@ -7,6 +7,14 @@ mod descent;
 mod passes;
 mod table;
 
+// The limits of a text.
+pub const MOST_BYTES: usize = 4096;
+
+const MOST_NAMES: usize = 64;
+
+// The rows of a table of parts: letters and names, and ⊥.
+pub const PARTS: usize = MOST_NAMES + 1;
+
 pub enum Connective {
     And,
     Or,
@@ -26,7 +34,7 @@ pub struct Node {
 
 // The first `count` nodes: inner parts before outer ones, left before right.
 pub struct Parts {
-    pub nodes: [Node; 65],
+    pub nodes: [Node; PARTS],
     pub count: u8,
 }
 
@@ -57,7 +65,7 @@ pub fn read(text: &[u8]) -> Reading
     if text.len() == 0 {
         return refused(1, 0);
     }
-    if 4096 < text.len() {
+    if MOST_BYTES < text.len() {
         return refused(1, 0);
     }
     if passes::too_deep(text) {
@@ -66,7 +74,7 @@ pub fn read(text: &[u8]) -> Reading
     if let passes::Scan::Fault(place) = passes::find_fault(text) {
         return refused(3, place);
     }
-    if 64 < passes::size(text) {
+    if MOST_NAMES < passes::size(text) {
         return refused(4, 0);
     }
     let whole = descent::implication(text, 0, table::empty());

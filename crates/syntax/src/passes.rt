@@ -3,12 +3,16 @@ use super::bytes;
 use atoms::AtomSet;
 ghost use mathlib.Core.Path.{_≡_};
 ghost use mathlib.Core.Bool.{cond};
-ghost use Prim.Native.Nat.{ℕ, _≤_, _<_, _+_, _*_};
+ghost use Prim.Native.Nat.{_≤_, _<_, _*_};
 ghost use lib.Dec.{eqb};
 ghost use lib.ListN.{length};
-ghost use Rattle.syntax.specs.Refusal.{TooDeep, Decides};
-ghost use Rattle.syntax.specs.Scan.{Scanned, turnBy};
-ghost use Rattle.syntax.specs.Size.{CountsOn, namesBy, sizeOf};
+ghost use Rattle.syntax.specs.Code.{classCount, decode};
+ghost use Rattle.syntax.specs.Refusal.{mostBytes, TooDeep, Decides};
+ghost use Rattle.syntax.specs.Scan.{Scanned, move, stateOf, turnState};
+ghost use Rattle.syntax.specs.Size.{Brings, CountsOn, mostNamesOfByte, sizeOf};
+
+// How many parentheses may be open.
+const MOST_OPEN: usize = 64;
 
 fn one_if_same(a: u8, b: u8) -> usize
     ensures { λ r. ⌜ (r ≡ cond (eqb a b) 1 0) × (r ≤ 1) ⌝ }
@@ -16,9 +20,9 @@ fn one_if_same(a: u8, b: u8) -> usize
     if a == b { 1 } else { 0 }
 }
 
-// Refusal 2: some beginning has over 64 more opening than closing parentheses. The reader has judged the length.
+// Refusal 2: some beginning has too many more opening than closing parentheses. The reader has judged the length.
 pub fn too_deep(s: &[u8]) -> bool
-    requires { ⌜ length (now s) ≤ 4096 ⌝ }
+    requires { ⌜ length (now s) ≤ mostBytes ⌝ }
     ensures { λ r. ⌜ Decides r (TooDeep (now (s .entry))) ⌝ }
 {
     let mut opened: usize = 0;
@@ -28,7 +32,7 @@ pub fn too_deep(s: &[u8]) -> bool
         opened += one_if_same(s[i], b'(');
         closed += one_if_same(s[i], b')');
         i += 1;
-        if 64 + closed < opened {
+        if MOST_OPEN + closed < opened {
             return true;
         }
     }
@@ -36,29 +40,30 @@ pub fn too_deep(s: &[u8]) -> bool
 }
 
 // A token that does not fit; or whether an operand is wanted after it, and how many parentheses are open.
-pub enum Turn {
+enum Turn {
     Misfit,
     Fits(bool, usize),
 }
 
+// A space changes nothing.
 fn step(operand: bool, depth: usize, class: u8) -> Turn
-    requires { ⌜ depth < 4096 ⌝ }
-    ensures { λ r. ⌜ r ≡ turnBy operand depth class ⌝ }
+    requires { ⌜ depth < mostBytes ⌝ }
+    ensures { λ r. ⌜ turnState r ≡ move (stateOf operand depth) (decode class) ⌝ }
 {
+    if class == bytes::BLANK {
+        return Turn::Fits(operand, depth);
+    }
     if operand {
-        if class < bytes::BLANK {
-            return Turn::Misfit;
-        }
-        if class < bytes::OPENING {
+        if class == bytes::NOT {
             return Turn::Fits(true, depth);
         }
         if class == bytes::OPENING {
             return Turn::Fits(true, depth + 1);
         }
-        return Turn::Fits(false, depth);
-    }
-    if class == bytes::BLANK {
-        return Turn::Fits(false, depth);
+        if bytes::is_leaf(class) {
+            return Turn::Fits(false, depth);
+        }
+        return Turn::Misfit;
     }
     if class == bytes::CLOSING {
         if depth == 0 {
@@ -66,10 +71,7 @@ fn step(operand: bool, depth: usize, class: u8) -> Turn
         }
         return Turn::Fits(false, depth - 1);
     }
-    if class == bytes::FOREIGN {
-        return Turn::Misfit;
-    }
-    if class < bytes::BLANK {
+    if bytes::is_binary(class) {
         return Turn::Fits(true, depth);
     }
     Turn::Misfit
@@ -82,7 +84,7 @@ pub enum Scan {
 
 // Refusal 3: a formula, or how many bytes begin one. The reader has judged the length.
 pub fn find_fault(s: &[u8]) -> Scan
-    requires { ⌜ length (now s) ≤ 4096 ⌝ }
+    requires { ⌜ length (now s) ≤ mostBytes ⌝ }
     ensures { λ r. ⌜ Scanned (now (s .entry)) r ⌝ }
 {
     let mut operand = true;
@@ -110,14 +112,14 @@ pub fn find_fault(s: &[u8]) -> Scan
 }
 
 // Letters seen, and letters and names so far.
-pub struct Count {
-    pub seen: AtomSet,
-    pub count: usize,
+struct Count {
+    seen: AtomSet,
+    count: usize,
 }
 
-// The names that a connective gets.
+// The names that a connective gets: `=` has three parts.
 fn names_of(class: u8) -> usize
-    ensures { λ r. ⌜ (r ≡ namesBy class) × (r ≤ 3) ⌝ }
+    ensures { λ r. ⌜ Brings class r ⌝ }
 {
     if class == bytes::EQUALS {
         return 3;
@@ -125,23 +127,20 @@ fn names_of(class: u8) -> usize
     if class == bytes::NOT {
         return 1;
     }
-    if class < bytes::AND {
-        return 0;
-    }
-    if class < bytes::EQUALS {
+    if bytes::is_binary(class) {
         return 1;
     }
     0
 }
 
-// One token more. Classes of bytes are below 36, and the count of a text is small.
+// One token more. The class is a byte's, and the count is that of a text.
 fn counted(c: Count, class: u8) -> Count
-    requires { ⌜ (class < 36) × (c .count ≤ 65536) ⌝ }
+    requires { ⌜ (class < classCount) × (c .count ≤ mostNamesOfByte * mostBytes) ⌝ }
     ensures { λ r. ⌜ CountsOn c class r ⌝ }
 {
     let seen = c.seen;
     let count = c.count;
-    if bytes::LETTER <= class {
+    if bytes::is_letter(class) {
         let letter = class - bytes::LETTER;
         if seen.has(letter) {
             return c;
@@ -159,7 +158,7 @@ fn counted(c: Count, class: u8) -> Count
 
 // Letters and names together, for refusal 4. The reader has judged the length.
 pub fn size(s: &[u8]) -> usize
-    requires { ⌜ length (now s) ≤ 4096 ⌝ }
+    requires { ⌜ length (now s) ≤ mostBytes ⌝ }
     ensures { λ r. ⌜ r ≡ sizeOf (now (s .entry)) ⌝ }
 {
     let mut c = Count {

@@ -1,6 +1,7 @@
 // The table of parts: letters and ⊥ are found again, each compound has a row of its own.
 use super::Connective;
 use super::Node;
+use super::PARTS;
 use super::Part;
 use super::Parts;
 ghost use mathlib.Core.Path.{_≡_};
@@ -18,7 +19,7 @@ pub fn empty() -> Parts
     ensures { λ r. ⌜ Empty r ⌝ }
 {
     let part = Part::Falsum;
-    let nodes = [Node { part }; 65];
+    let nodes = [Node { part }; PARTS];
     Parts { nodes, count: 0 }
 }
 
@@ -27,8 +28,8 @@ fn push(parts: Parts, part: Part) -> Parts
 {
     let count = parts.count;
     let mut more = parts;
-    if count < 65 {
-        let i = count as usize;
+    let i = count as usize;
+    if i < PARTS {
         more.nodes[i] = Node { part };
         more.count = count + 1;
     }

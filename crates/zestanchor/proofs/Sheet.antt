@@ -1,10 +1,12 @@
--- The sheet written of a text's session is that of the text's verdict.
-use mathlib.Core.Bool.{true}
-use mathlib.Core.List.{List, []}
+-- The sheet written of a text's session is that of the text's verdict; without one the line of the refusal is given.
+use mathlib.Core.Bool.{Bool, true, false, cond}
+use mathlib.Core.List.{List, [], _∷_}
 use mathlib.Core.Option.{Option, none, some}
 use mathlib.Core.Path.{_≡_, refl, sym, ap, _∙_, subst}
 use Prim.Native.Nat.{ℕ}
+use lib.Dec.{leb}
 use lib.ListN.{length}
+use native.Mathlib.Omega.{arith}
 use borrow.Author.Tests.{le-leb, lt-leb}
 use Rattle.atoms.proofs.Bytes.{put-nothing}
 use Rattle.ipl.specs.Search.{State, Outcome, valid, refuted, refused, unfinished}
@@ -12,10 +14,9 @@ use Rattle.ipl.specs.Book.{Book, answer, stepsAfter}
 use Rattle.ipl.proofs.Book.{Reached, opened-reached}
 use Rattle.prover.specs.State.{book}
 use Rattle.prover.specs.InRange.{inRange}
-use Rattle.prover.specs.Calls.{NothingHeld, Answer, AskedAs}
+use Rattle.prover.specs.Calls.{NothingHeld, Searched, AskedAs}
 use Rattle.prover.specs.Demand.{question}
 use Rattle.prover.specs.declared.Held.{Held}
-use Rattle.prover.specs.declared.Held.the-variants as held
 use Rattle.prover.specs.declared.Session.{Session}
 use Rattle.prover.specs.declared.Answered.{Answered}
 use Rattle.prover.proofs.DemandThree.{nothing-in-range, asked-as, call-kept}
@@ -26,13 +27,18 @@ use Rattle.clausify.specs.Calls.{SettledAs}
 use Rattle.clausify.specs.declared.Settled.{Settled}
 use Rattle.clausify.proofs.TextBook.{text-reached}
 use Rattle.certificate.specs.Certificate as claim
-use Rattle.certificate.specs.Format.{encode}
+use Rattle.certificate.specs.Format.{encode, contents}
 use Rattle.certificate.specs.Written.{problemOfBook, claimOfVerdict}
 use Rattle.certify.specs.Held.{Certificate, bytesOf, certificateHeld}
 use Rattle.certify.specs.Written.{WrittenAs, Written}
 use Rattle.certify.specs.declared.Length.{Length}
-use Rattle.report.specs.Printed.{sheetBytes, sheetAs, sheet}
-use Rattle.zestanchor.specs.Tasks.{sizeOf, Gives}
+use Rattle.certify.specs.declared.Length.the-variants.{Bytes, Refused}
+use Rattle.certify.proofs.Buffer.{refused-unwritten}
+use Rattle.text.specs.Output.{Gives, Reported}
+use Rattle.report.specs.Report.{reportOf}
+use Rattle.report.specs.Printed.{printed, sheetBytes, sheetAs, sheet}
+use Rattle.report.proofs.Fitting.{report-given}
+use Rattle.zestanchor.specs.Tasks.{sizeOf, orElse, certified}
 
 -- The bytes of what there is to write.
 abbrev bytesIn : Option Certificate → List ℕ
@@ -52,41 +58,86 @@ nothing-held : (total : ℕ) (s : Session) → NothingHeld total s → certifica
 nothing-held total s h = ap (certificateHeld s) (h .no-verdict)
 
 module _ (k : Book) (g : ℕ) (s : Session) (same : book s ≡ k) (x : Answered) where
-  same-problem : (end : State) (v : Held) → Answer s end v (x .session) → problemOfBook (book (x .session)) g ≡ problemOfBook k g
-  same-problem end v a = ap (λ (k : Book). problemOfBook k g) (a .holds) ∙ ap (λ (k : Book). problemOfBook k g) same
+  same-problem : (end : State) → Searched s end (x .session) → problemOfBook (book (x .session)) g ≡ problemOfBook k g
+  same-problem end a = ap (λ (k : Book). problemOfBook k g) (a .holds) ∙ ap (λ (k : Book). problemOfBook k g) same
 
   held-sheet : (total : ℕ) → NothingHeld total s → (o : Outcome) → AskedAs s g o x → bytesIn (certificateHeld (x .session) (x .session .held)) ≡ sheetBytes k g (claimOfVerdict k o)
   unfolding sheetBytes claimOfVerdict stepsAfter
   held-sheet total n (valid end) a =
-      ap (λ (v : Held). bytesIn (certificateHeld (x .session) v)) (a .1 .verdict)
-      ∙ (λ i. encode (same-problem end (held.Valid g) (a .1) i) (claim.valid (ap (λ (k : Book). k .steps) (a .1 .holds) i)))
+      ap (λ (v : Held). bytesIn (certificateHeld (x .session) v)) (a .0 .kept)
+      ∙ (λ i. encode (same-problem end (a .1) i) (claim.valid (ap (λ (k : Book). k .steps) (a .1 .holds) i)))
   held-sheet total n (refuted end) a =
-      ap (λ (v : Held). bytesIn (certificateHeld (x .session) v)) (a .1 .verdict)
-      ∙ (λ i. encode (same-problem end (held.Refuted g) (a .1) i) (claim.refuted (a .1 .shows i)))
+      ap (λ (v : Held). bytesIn (certificateHeld (x .session) v)) (a .0 .kept)
+      ∙ (λ i. encode (same-problem end (a .1) i) (claim.refuted (a .0 .shows i)))
   held-sheet total n (refused number) a =
       ap (λ (s : Session). bytesIn (certificateHeld s (s .held))) (a .1) ∙ ap bytesIn (nothing-held total s n)
-  held-sheet total n unfinished a = absurd a
+  held-sheet total n unfinished a = absurd (a .0)
 
--- ---- the contract
-module _ (before after : List ℕ) (l : Length) where
-  written-gives : (s : Session) → inRange s ≡ true → (bytes : List ℕ) → bytesIn (certificateHeld s (s .held)) ≡ bytes → Written s before l after → Gives bytes before after (sizeOf l)
-  written-gives s i bytes e w = subst (λ (b : List ℕ). Gives b before after (sizeOf l)) e (gives (certificateHeld s (s .held)) before after l (w .written i))
+-- ---- what is written of it
 
-  settled-gives : (j : Judgement) (r : Settled) → SettledAs j r → Written (r .session) before l after → Gives (sheetAs j) before after (sizeOf l)
-  unfolding sheetAs
-  settled-gives (judgement.refused number place) r h w =
-      written-gives (r .session) (nothing-in-range 0 (r .session) (subst Reached (sym (h .1 .clauses)) (opened-reached 1)) (h .1 .nothing)) []
-      (ap bytesIn (nothing-held 0 (r .session) (h .1 .nothing))) w
-  settled-gives (judgement.accepted t) r (s, holds, asked) w =
-      let k = textBook t in
-      let reached : Reached (book s) = subst Reached (sym (holds .clauses)) (text-reached t) in
-      let i = nothing-in-range 0 s reached (holds .nothing) in
-      let x : Answered = record { verdict = r .verdict; session = r .session } in
-      let a = asked-as s i reached (r .goal) x asked in
-      written-gives (r .session) (call-kept s i reached (question (r .goal)) x asked .1) (sheetBytes k (goalOf t) (claimOfVerdict k (answer k (goalOf t))))
-      (held-sheet k (r .goal) s (holds .clauses) x 0 (holds .nothing) (answer k (r .goal)) (subst (λ (k : Book). AskedAs s (r .goal) (answer k (r .goal)) x) (holds .clauses) a)
-      ∙ ap (λ (g : ℕ). sheetBytes k g (claimOfVerdict k (answer k g))) (holds .goal)) w
+-- The session of a settled text is in range, and holds the sheet of the text's verdict.
+settled-holds : (j : Judgement) (r : Settled) → SettledAs j r → (inRange (r .session) ≡ true) × (bytesIn (certificateHeld (r .session) (r .session .held)) ≡ sheetAs j)
+unfolding sheetAs
+settled-holds (judgement.refused number place) r h = (
+  nothing-in-range 0 (r .session) (subst Reached (sym (h .1 .clauses)) (opened-reached 1)) (h .1 .nothing),
+  ap bytesIn (nothing-held 0 (r .session) (h .1 .nothing)),
+)
+settled-holds (judgement.accepted t) r (s, holds, asked) =
+    let k = textBook t in
+    let reached : Reached (book s) = subst Reached (sym (holds .clauses)) (text-reached t) in
+    let i = nothing-in-range 0 s reached (holds .nothing) in
+    let x : Answered = record { verdict = r .verdict; session = r .session } in
+    let a = asked-as s i reached (r .goal) x asked in (
+      call-kept s i reached (question (r .goal)) x asked .1,
+      held-sheet k (r .goal) s (holds .clauses) x 0 (holds .nothing) (answer k (r .goal)) (subst (λ (k : Book). AskedAs s (r .goal) (answer k (r .goal)) x) (holds .clauses) a)
+          ∙ ap (λ (g : ℕ). sheetBytes k g (claimOfVerdict k (answer k g))) (holds .goal),
+    )
 
-pub sheet-given : (s : List ℕ) (r : Settled) (before after : List ℕ) (l : Length) → SettledAs (judge s) r → Written (r .session) before l after → Gives (sheet s) before after (sizeOf l)
-unfolding sheet
-sheet-given s r before after l h w = settled-gives before after l (judge s) r h w
+module _ (s : List ℕ) (r : Settled) (h : SettledAs (judge s) r) (before after : List ℕ) (l : Length) (w : Written (r .session) before l after) where
+  abbrev heldNow : Option Certificate
+  heldNow = certificateHeld (r .session) (r .session .held)
+
+  written-as : WrittenAs heldNow before l after
+  written-as = w .written (settled-holds (judge s) r h .0)
+
+  bytes-are : bytesIn heldNow ≡ sheet s
+  unfolding sheet
+  bytes-are = settled-holds (judge s) r h .1
+
+  pub sheet-given : Gives (sheet s) before after (sizeOf l)
+  sheet-given = subst (λ (b : List ℕ). Gives b before after (sizeOf l)) bytes-are (gives heldNow before after l written-as)
+
+  -- ---- the sheet, or the line of the refusal
+
+  -- By the answer of the writer: 9 exactly if there is no sheet.
+  answered : (x : Option Certificate) → WrittenAs x before l after → bytesIn x ≡ sheet s → (l ≡ Refused 9 → sheet s ≡ []) × ((l ≡ Refused 9 → ⊥) → sheet s ≡ [] → ⊥)
+  unfolding encode contents
+  answered none a e = (λ _. sym e, λ d. absurd (d (a .answer)))
+  answered (some x) a e = (λ n. absurd (other (leb (length (bytesOf x)) (length before)) (sym (a .answer) ∙ n)), λ d n. let z : _≡_ {A = ℕ} 0 1 = cc in omega arith)
+    where
+      other : (b : Bool) → cond b (Bytes (length (bytesOf x))) (Refused 10) ≡ Refused 9 → ⊥
+      other true n = let z : _≡_ {A = ℕ} 0 1 = cc in omega arith
+      other false n = let z : _≡_ {A = ℕ} 9 10 = cc in omega arith
+
+  certified-is : (b : List ℕ) → b ≡ sheet s → (b ≡ [] → ⊥) → certified s ≡ b
+  unfolding certified
+  certified-is [] e d = absurd (d refl)
+  certified-is (b ∷ bytes) e d = ap (λ (l : List ℕ). orElse l (printed s)) (sym e)
+
+  sheet-certified : (l ≡ Refused 9 → ⊥) → Gives (certified s) before after (sizeOf l)
+  sheet-certified d = rw (certified-is (sheet s) refl (answered heldNow written-as bytes-are .1 d)) sheet-given
+
+  pub written-certified : (n : ℕ) → l ≡ Bytes n → Gives (certified s) before after n
+  written-certified n e =
+      subst (Gives (certified s) before after) (ap sizeOf e) (sheet-certified (λ d. let z : _≡_ {A = ℕ} 0 1 = cc in omega arith))
+
+  pub unwritten-certified : (k : ℕ) → l ≡ Refused k → (k ≡ 9 → ⊥) → Gives (certified s) before after 0
+  unwritten-certified k e d = subst (Gives (certified s) before after) (ap sizeOf e) (sheet-certified (λ n. d (cc)))
+
+  -- No verdict: the writer left the output as it was, and the report is written.
+  pub refusal-certified : (k : ℕ) → l ≡ Refused k → k ≡ 9 → (exit : List ℕ) (n : ℕ) → Reported (reportOf r) after exit n → Gives (certified s) before exit n
+  unfolding certified
+  refusal-certified k e nine exit n p =
+      let none : l ≡ Refused 9 = e ∙ ap Refused nine in
+      rw (answered heldNow written-as bytes-are .0 none)
+      (subst (λ (b : List ℕ). Gives (printed s) b exit n) (refused-unwritten (r .session) before l after w 9 none) (report-given s r h p))

@@ -1,34 +1,52 @@
--- Each task is done by its calls.
-use mathlib.Core.List.{List}
-use mathlib.Core.Path.{_≡_, refl, sym, subst}
-use Prim.Native.Nat.{ℕ, zero, suc}
-use Rattle.syntax.specs.Judge as text
-use Rattle.clausify.specs.Calls.{SettledAs}
-use Rattle.clausify.specs.declared.Settled.{Settled}
-use Rattle.certificate.specs.Judge as certificate
-use Rattle.certificate.specs.Checked.{judgementOf}
-use Rattle.certificate.specs.declared.Checked.{Checked}
-use Rattle.certify.specs.Written.{Written}
-use Rattle.certify.specs.declared.Length.{Length}
-use Rattle.report.specs.Report.{reportOf, checkReportOf}
-use Rattle.report.specs.Output.{Reported}
-use Rattle.report.proofs.Printed.{report-printed, check-report-printed}
-use Rattle.zestanchor.specs.Tasks.{sizeOf, Gives, Done}
-use Rattle.report.specs.Printed.{sheet}
-use Rattle.zestanchor.proofs.Sheet.{sheet-given}
+-- Each task is done by its call; how long what task 1 gives is.
+use mathlib.Core.List.{List, [], _∷_}
+use mathlib.Core.Logic.{_⊎_, inl, inr}
+use mathlib.Core.Path.{_≡_, refl, sym, ap, subst}
+use Prim.Native.Nat.{ℕ, zero, suc, _≤_, _<_}
+use native.Mathlib.Omega.{arith}
+use lib.ListN.{length}
+use Rattle.text.specs.Output.{draft, longest, Gives}
+use Rattle.report.specs.Printed.{printed, sheet}
+use Rattle.report.proofs.Fitting.{printed-fits, no-sheet-short}
+use Rattle.report.proofs.Sheets.{sheet-least, sheet-most}
+use Rattle.zestanchor.specs.Tasks.{orElse, certified, noTask, Done}
 
-module _ (task : ℕ) (input entry exit : List ℕ) (r : ℕ) where
-  pub settle-done : task ≡ 0 → (s : Settled) → SettledAs (text.judge input) s → Reported (reportOf s) entry exit r → Done task input entry exit r
-  settle-done e s h w = subst (λ (t : ℕ). Done t input entry exit r) (sym e) (subst (λ (T : List ℕ). Reported T entry exit r) (report-printed input s h) w)
+pub done-as : (task k : ℕ) (input entry exit : List ℕ) (r : ℕ) → task ≡ k → Done k input entry exit r → Done task input entry exit r
+done-as task k input entry exit r e d = subst (λ (t : ℕ). Done t input entry exit r) (sym e) d
 
-  pub certify-done : task ≡ 1 → (s : Settled) → SettledAs (text.judge input) s → (l : Length) → Written (s .session) entry l exit → r ≡ sizeOf l → Done task input entry exit r
-  certify-done e s h l w q = subst (λ (t : ℕ). Done t input entry exit r) (sym e) (subst (Gives (sheet input) entry exit) (sym q) (sheet-given input s entry exit l h w))
+pub nothing-done : (task : ℕ) (input entry : List ℕ) → (task ≡ 0 → ⊥) → (task ≡ 1 → ⊥) → (task ≡ 2 → ⊥) → (task ≡ 3 → ⊥) → Done task input entry entry noTask
+nothing-done zero input entry a b c d = absurd (a refl)
+nothing-done (suc zero) input entry a b c d = absurd (b refl)
+nothing-done (suc (suc zero)) input entry a b c d = absurd (c refl)
+nothing-done (suc (suc (suc zero))) input entry a b c d = absurd (d refl)
+nothing-done (suc (suc (suc (suc task)))) input entry a b c d = (refl, refl)
 
-  pub check-done : task ≡ 2 → (k : Checked) → judgementOf input k ≡ certificate.judge input → Reported (checkReportOf k) entry exit r → Done task input entry exit r
-  check-done e k h w = subst (λ (t : ℕ). Done t input entry exit r) (sym e) (subst (λ (T : List ℕ). Reported T entry exit r) (check-report-printed input k h) w)
+-- ---- the length that task 1 gives
 
-pub nothing-done : (task : ℕ) (input entry : List ℕ) → (task ≡ 0 → ⊥) → (task ≡ 1 → ⊥) → (task ≡ 2 → ⊥) → Done task input entry entry 0
-nothing-done zero input entry a b c = absurd (a refl)
-nothing-done (suc zero) input entry a b c = absurd (b refl)
-nothing-done (suc (suc zero)) input entry a b c = absurd (c refl)
-nothing-done (suc (suc (suc task))) input entry a b c = (refl, refl)
+module _ (s : List ℕ) where
+  by-sheet : (P : List ℕ → Type 0) → (sheet s ≡ [] → P (printed s)) → ((sheet s ≡ [] → ⊥) → P (sheet s)) → P (certified s)
+  unfolding certified
+  by-sheet P none some = go (sheet s) none some
+    where
+      go : (b : List ℕ) → (b ≡ [] → P (printed s)) → ((b ≡ [] → ⊥) → P b) → P (orElse b (printed s))
+      go [] none some = none refl
+      go (x ∷ b) none some = some (λ e. let z : _≡_ {A = ℕ} 0 1 = cc in omega arith)
+
+  -- A draft has room for it.
+  certified-fits : length (certified s) ≤ draft
+  unfolding longest
+  certified-fits = by-sheet (λ l. length l ≤ draft) (λ _. omega (arith, printed-fits s)) (λ _. omega (arith, sheet-most s))
+
+  pub certified-size : (entry exit : List ℕ) (r : ℕ) → length entry ≡ draft → Gives (certified s) entry exit r → r ≡ length (certified s)
+  certified-size entry exit r e g = g .fits (omega (arith, certified-fits))
+
+  -- "A length that tells the two apart": a sheet has at least 39 bytes, the line of a refusal fewer.
+  pub refusal-shorter : sheet s ≡ [] → length (certified s) < 39
+  refusal-shorter e = by-sheet (λ l. length l < 39) (λ _. omega (arith, no-sheet-short s e)) (λ d. absurd (d e))
+
+  pub sheet-longer : (sheet s ≡ [] → ⊥) → 39 ≤ length (certified s)
+  sheet-longer d = by-sheet (λ l. 39 ≤ length l) (λ e. absurd (d e)) (λ _. long (sheet-least s))
+    where
+      long : (sheet s ≡ []) ⊎ (39 ≤ length (sheet s)) → 39 ≤ length (sheet s)
+      long (inl e) = absurd (d e)
+      long (inr h) = h

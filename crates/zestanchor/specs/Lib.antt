@@ -1,2 +1,3 @@
--- What each task of the exported function gives.
+-- What each task of the exported function gives, and demand 2 for the sessions of texts.
 pub mod Tasks
+pub mod Demand

@@ -3,13 +3,14 @@ use borrow.Author.Needs.{needs}
 use mathlib.Core.Path.{ap, _∙_, subst}
 use Prim.Native.Nat.{ℕ}
 use Rattle.certificate.specs.Certificate.{refused}
-use Rattle.certificate.specs.Checked.{LayoutRead, ContentsRead}
+use Rattle.certificate.specs.Checked.{LayoutRead}
+use Rattle.certificate.specs.declared.layout.Layout.the-variants.{Read}
 use Rattle.certificate.proofs.Judging.{unlaid, laid}
 use Rattle.certificate.proofs.check.Statement.{statement}
 use Rattle.certificate.proofs.check.Tie as tie
 
 -- The contents, where the layout is kept.
-found : (c : tie.After-k) → ContentsRead (c .before .before .before .before .args .bytes .now) (c .k .given .0 .0)
+found : (c : tie.After-k) → LayoutRead (c .before .before .before .before .args .bytes .now) (Read (c .k .given .0 .0))
 found c = subst (LayoutRead _) (c .k .given .1) (c .before .before .read .ensures)
 
 read-requires : tie.Need-read-requires

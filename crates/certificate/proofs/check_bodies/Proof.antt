@@ -19,10 +19,14 @@ all-closed-requires : tie.Need-all-closed-requires
 all-closed-requires c κs = record { sized = c .before .before .before .pre; ranged = true-T (sym (c .before .in-range .ensures) ∙ not-false _ (c .if1 .left)) }
 
 returns-2 : tie.Need-returns-2
-returns-2 c = unclosed _ _ (sym (c .before .before .before .in-range .ensures) ∙ not-false _ (c .before .before .if1 .left)) (sym (c .before .all-closed .ensures) ∙ not-true _ (c .if2 .taken))
+returns-2 c =
+    let ranged = c .before .before in
+    unclosed _ _ (sym (ranged .before .in-range .ensures) ∙ not-false _ (ranged .if1 .left)) (sym (c .before .all-closed .ensures) ∙ not-true _ (c .if2 .taken))
 
 wrong-place-requires : tie.Need-wrong-place-requires
-wrong-place-requires c κs = record { sized = c .before .before .before .before .before .pre; ranged = true-T (sym (c .before .before .before .in-range .ensures) ∙ not-false _ (c .before .before .if1 .left)) }
+wrong-place-requires c κs =
+    let ranged = c .before .before in
+    record { sized = ranged .before .before .before .pre; ranged = true-T (sym (ranged .before .in-range .ensures) ∙ not-false _ (ranged .if1 .left)) }
 
 enum-told : tie.Need-enum-told
 enum-told c = search needs
@@ -33,16 +37,20 @@ enum-known-place c = search needs
 returns-3 : tie.Need-returns-3
 unfolding judgeClaim
 returns-3 c =
-    let w = c .before .before in
-    claimed _ _ (sym (w .before .before .before .before .in-range .ensures) ∙ not-false _ (w .before .before .before .if1 .left)) (sym (w .before .before .all-closed .ensures) ∙ not-false _ (w .before .if2 .left)) _
-    (ap placeOf (sym (c .enum-told .given .1)) ∙ w .wrong-place .ensures)
+    let placed = c .before .before in
+    let closed = placed .before in
+    let ranged = closed .before .before in
+    claimed _ _ (sym (ranged .before .in-range .ensures) ∙ not-false _ (ranged .if1 .left)) (sym (closed .before .all-closed .ensures) ∙ not-false _ (closed .if2 .left))
+    _ (ap placeOf (sym (c .enum-told .given .1)) ∙ placed .wrong-place .ensures)
 
 returns-4 : tie.Need-returns-4
 unfolding judgeClaim
 returns-4 c =
-    let w = c .before .before .before in
-    claimed _ _ (sym (w .before .before .before .before .in-range .ensures) ∙ not-false _ (w .before .before .before .if1 .left)) (sym (w .before .before .all-closed .ensures) ∙ not-false _ (w .before .if2 .left)) _
-    (ap placeOf (sym (c .before .place .given .1)) ∙ w .wrong-place .ensures)
+    let placed = c .before .before .before in
+    let closed = placed .before in
+    let ranged = closed .before .before in
+    claimed _ _ (sym (ranged .before .in-range .ensures) ∙ not-false _ (ranged .if1 .left)) (sym (closed .before .all-closed .ensures) ∙ not-false _ (closed .if2 .left))
+    _ (ap placeOf (sym (c .before .place .given .1)) ∙ placed .wrong-place .ensures)
 
 pub check-bodies-spec : {M : Type 1} → statement M
 check-bodies-spec =

@@ -1,61 +1,75 @@
--- The report fits the line.
-use mathlib.Core.Path.{sym}
-use lib.Seq.{length-take-le}
-use Rattle.report.proofs.Appending.{reported-inside}
+-- What came is within the buffer.
+use Rattle.streams.proofs.Reading.{bytes-within}
 use borrow.Author.Needs.{needs}
 use native.Mathlib.Omega.{arith}
 use Rattle.check_sheet.proofs.main.Statement.{statement}
 use Rattle.check_sheet.proofs.main.Tie as tie
 
-large-buffer-requires : tie.Need-large-buffer-requires
-large-buffer-requires c κs = search needs
-
-slice-aggregate-read-full : tie.Need-slice-aggregate-read-full
-slice-aggregate-read-full c = search needs
-
-read-full-requires : tie.Need-read-full-requires
-read-full-requires c κs = search needs
-
-array-share-prefix-buffer : tie.Need-array-share-prefix-buffer
-array-share-prefix-buffer c = search needs
-
-slice-aggregate-check : tie.Need-slice-aggregate-check
-slice-aggregate-check c = search needs
-
-check-requires : tie.Need-check-requires
-check-requires c κs = search needs
-
-slice-aggregate-check-report : tie.Need-slice-aggregate-check-report
-slice-aggregate-check-report c = search needs
-
-check-report-requires : tie.Need-check-report-requires
-check-report-requires c κs = search needs
-
-array-share-prefix-line : tie.Need-array-share-prefix-line
-array-share-prefix-line c = omega (arith, reported-inside (c .before .check-report .ensures), c .before .check-report .kept .1 .0)
-
-slice-aggregate-write-all : tie.Need-slice-aggregate-write-all
-slice-aggregate-write-all c = sym (length-take-le _ _ (omega (arith, reported-inside (c .before .before .check-report .ensures), c .before .before .check-report .kept .1 .0)))
-
-write-all-requires : tie.Need-write-all-requires
-write-all-requires c κs = search needs
+are-open-requires : tie.Need-are-open-requires
+are-open-requires c κs = search needs
 
 returns : tie.Need-returns
 returns c = search needs
+
+slice-aggregate-read : tie.Need-slice-aggregate-read
+slice-aggregate-read c = search needs
+
+read-requires : tie.Need-read-requires
+read-requires c κs = search needs
+
+enum-known-input : tie.Need-enum-known-input
+enum-known-input c = search needs
+
+enum-told : tie.Need-enum-told
+enum-told c = search needs
+
+returns-2 : tie.Need-returns-2
+returns-2 c = search needs
+
+count-rest-requires : tie.Need-count-rest-requires
+count-rest-requires c κs = search needs
+
+enum-known-rest : tie.Need-enum-known-rest
+enum-known-rest c = search needs
+
+enum-told-2 : tie.Need-enum-told-2
+enum-told-2 c = search needs
+
+returns-3 : tie.Need-returns-3
+returns-3 c = search needs
+
+array-share-prefix-sheet : tie.Need-array-share-prefix-sheet
+array-share-prefix-sheet c =
+    let matched = c .before .before .before .before .before in
+    omega (arith, bytes-within _ _ _ (matched .before .before .before .read .ensures) (matched .input .given .1) .0)
+
+slice-aggregate-print : tie.Need-slice-aggregate-print
+slice-aggregate-print c =
+    let matched = c .before .before .before .before .before .before in
+    bytes-within _ _ _ (matched .before .before .before .read .ensures) (matched .input .given .1) .1
+
+print-requires : tie.Need-print-requires
+print-requires c κs = search needs
+
+returns-4 : tie.Need-returns-4
+returns-4 c = search needs
 
 pub main-spec : {M : Type 1} → statement M
 main-spec =
     tie.close
     (tie.spec
-    large-buffer-requires
-    slice-aggregate-read-full
-    read-full-requires
-    array-share-prefix-buffer
-    slice-aggregate-check
-    check-requires
-    slice-aggregate-check-report
-    check-report-requires
-    array-share-prefix-line
-    slice-aggregate-write-all
-    write-all-requires
-    returns)
+    are-open-requires
+    returns
+    slice-aggregate-read
+    read-requires
+    enum-known-input
+    enum-told
+    returns-2
+    count-rest-requires
+    enum-known-rest
+    enum-told-2
+    returns-3
+    array-share-prefix-sheet
+    slice-aggregate-print
+    print-requires
+    returns-4)

@@ -1,6 +1,7 @@
 -- The opened session with the clauses written.
 use mathlib.Core.Path.{refl}
 use Rattle.atoms.proofs.Machine.{row-count-words}
+use Rattle.ipl.specs.Range.{flatTable}
 use Rattle.clausify.proofs.Texts.{session-holds, put-first}
 use borrow.Author.Needs.{needs}
 use Rattle.clausify.proofs.session_of.Statement.{statement}
@@ -19,13 +20,21 @@ slice-aggregate-write-2 : tie.Need-slice-aggregate-write-2
 slice-aggregate-write-2 c = search needs
 
 write-requires : tie.Need-write-requires
-write-requires c κs = (c .before .before .before .before .before .pre, row-count-words _ 512 refl, row-count-words _ 512 refl)
+write-requires c κs = (c .before .before .before .before .before .pre, row-count-words _ flatTable refl, row-count-words _ flatTable refl)
 
 implications-of-requires : tie.Need-implications-of-requires
 implications-of-requires c κs = search needs
 
 returns : tie.Need-returns
-returns c = (session-holds _ _ (c .before .before .before .before .before .before .before .before .before .before .before .pre) _ (c .before .before .before .before .before .before .before .before .before .before .atom-count .ensures) (c .before .before .before .before .before .before .before .before .before .«open» .result .session) (c .before .before .before .before .before .before .before .before .before .«open» .ensures .holds) _ _ _ (c .implications-of .result) (put-first _ _ _ _ _ _ (c .before .before .before .before .before .write .ensures)) (c .implications-of .ensures), record { no-verdict = c .before .before .before .before .before .before .before .before .before .«open» .ensures .nothing .no-verdict; no-worlds = c .before .before .before .before .before .before .before .before .before .«open» .ensures .nothing .no-worlds; same-total = c .before .before .before .before .before .before .before .before .before .«open» .ensures .nothing .same-total })
+returns c =
+    let written = c .before .before .before .before .before in
+    let fresh = written .before .before .before .before .«open» in
+    let counted = written .before .before .before .before .before in
+    let none = fresh .ensures .nothing in (
+      session-holds _ _ (counted .before .pre) _ (counted .atom-count .ensures) (fresh .result .session) (fresh .ensures .holds) _ _ _
+          (c .implications-of .result) (put-first _ _ _ _ _ _ (written .write .ensures)) (c .implications-of .ensures),
+      record { no-verdict = none .no-verdict; no-worlds = none .no-worlds; same-total = none .same-total },
+    )
 
 pub session-of-spec : {M : Type 1} → statement M
 session-of-spec =

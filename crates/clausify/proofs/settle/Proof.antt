@@ -14,10 +14,16 @@ ask-requires : tie.Need-ask-requires
 ask-requires c κs = search needs
 
 returns : tie.Need-returns
-returns c = settled-asked (now (c .before .before .before .before .before .before .args .text)) (judge (now (c .before .before .before .before .before .before .args .text))) (judge-right (now (c .before .before .before .before .before .before .args .text))) (c .before .before .before .before .clausify .result) (c .before .before .before .before .clausify .ensures) (c .before .before .if1 .taken) (c .before .ask .result) (c .before .ask .ensures)
+returns c =
+    let problem = c .before .before .before .before in
+    let text = now (problem .before .before .args .text) in
+    settled-asked text (judge text) (judge-right text) (problem .clausify .result) (problem .clausify .ensures) (c .before .before .if1 .taken)
+    (c .before .ask .result) (c .before .ask .ensures)
 
 returns-2 : tie.Need-returns-2
-returns-2 c = settled-refused (judge (now (c .before .before .before .before .before .args .text))) (c .before .before .before .clausify .result) (c .before .before .before .clausify .ensures) (c .before .if1 .left)
+returns-2 c =
+    let problem = c .before .before .before in
+    settled-refused (judge (now (problem .before .before .args .text))) (problem .clausify .result) (problem .clausify .ensures) (c .before .if1 .left)
 
 pub settle-spec : {M : Type 1} → statement M
 settle-spec = tie.close (tie.spec clausify-requires ask-requires returns returns-2)

@@ -1,5 +1,6 @@
 -- Refused, or with one implication more.
-use mathlib.Core.Path.{sym, _∙_, refl}
+use mathlib.Core.Path.{sym, _∙_}
+use Rattle.prover.proofs.Refusals.{addition-taken, addition-refused}
 use borrow.Author.Needs.{needs}
 use Rattle.prover.proofs.add_implication.Statement.{statement}
 use Rattle.prover.proofs.add_implication.Tie as tie
@@ -11,14 +12,10 @@ with-implication-requires : tie.Need-with-implication-requires
 with-implication-requires c κs = sym (c .before .implication-refusal .ensures) ∙ c .if1 .taken
 
 returns : tie.Need-returns
-returns c =
-    let e = sym (c .before .before .implication-refusal .ensures) ∙ c .before .if1 .taken in
-    record { refused = c .before .before .implication-refusal .ensures; unchanged = λ d. absurd (d e); holds = λ _. c .with-implication .ensures .0; nothing = λ _. c .with-implication .ensures .1 }
+returns c = addition-taken _ _ _ _ (c .before .before .implication-refusal .ensures) (c .before .if1 .taken) _ (c .with-implication .ensures)
 
 returns-2 : tie.Need-returns-2
-returns-2 c =
-    let e = c .before .implication-refusal .ensures in
-    record { refused = e; unchanged = λ _. refl; holds = λ z. absurd (c .if1 .left (e ∙ z)); nothing = λ z. absurd (c .if1 .left (e ∙ z)) }
+returns-2 c = addition-refused _ _ _ _ (c .before .implication-refusal .ensures) (c .if1 .left)
 
 pub add-implication-spec : {M : Type 1} → statement M
 add-implication-spec =

@@ -1,6 +1,6 @@
 -- The text begun is handed over.
 use mathlib.Core.Path.{refl, _∙_}
-use Rattle.report.proofs.Appending.{begun}
+use Rattle.text.proofs.Appending.{begun}
 use borrow.Author.Needs.{needs}
 use Rattle.report.proofs.report.Statement.{statement}
 use Rattle.report.proofs.report.Tie as tie

@@ -1,9 +1,9 @@
 -- The verdict, the figures, and a line for each world.
-use Rattle.report.specs.Text.{ascii}
+use Rattle.text.specs.Text.{ascii}
 use Rattle.prover.specs.State.{stepRow}
 use Rattle.ipl.proofs.Lists.{tabulate-length}
 use Rattle.report.specs.Report.{refutedReport}
-use Rattle.report.proofs.Appending.{both}
+use Rattle.text.proofs.Appending.{both}
 use borrow.Author.Needs.{needs}
 use Rattle.report.proofs.write_refuted.Statement.{statement}
 use Rattle.report.proofs.write_refuted.Tie as tie

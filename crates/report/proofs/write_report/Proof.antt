@@ -1,7 +1,7 @@
 -- By the verdict.
 use mathlib.Core.Path.{sym, ap}
 use Rattle.prover.specs.declared.Verdict.{Verdict}
-use Rattle.report.proofs.Appending.{same-text}
+use Rattle.text.proofs.Appending.{same-text}
 use Rattle.report.specs.Report.{reportBy}
 use borrow.Author.Needs.{needs}
 use Rattle.report.proofs.write_report.Statement.{statement}

@@ -1,29 +1,41 @@
--- The report fits the buffer.
-use mathlib.Core.Path.{_≡_, sym}
-use lib.ListN.{length}
+-- The report and the sheet are within their buffers.
+use mathlib.Core.Path.{sym}
 use lib.Seq.{length-take-le}
+use Rattle.text.proofs.Appending.{given-inside}
 use borrow.Author.Needs.{needs}
 use native.Mathlib.Omega.{arith}
 use Rattle.settle.proofs.print.Statement.{statement}
 use Rattle.settle.proofs.print.Tie as tie
 
-slice-aggregate-report : tie.Need-slice-aggregate-report
-slice-aggregate-report c = search needs
+slice-aggregate-settle : tie.Need-slice-aggregate-settle
+slice-aggregate-settle c = search needs
 
-report-requires : tie.Need-report-requires
-report-requires c κs = search needs
+slice-aggregate-settle-2 : tie.Need-slice-aggregate-settle-2
+slice-aggregate-settle-2 c = search needs
 
-array-share-prefix-text : tie.Need-array-share-prefix-text
-array-share-prefix-text c = search needs
+settle-requires : tie.Need-settle-requires
+settle-requires c κs = search needs
 
-slice-aggregate-write-all : tie.Need-slice-aggregate-write-all
-slice-aggregate-write-all c = let l : length (c .before .before .before .report .last .1 .0) ≡ 16384 = search needs in sym (length-take-le (c .before .before .before .report .result) (c .before .before .before .report .last .1 .0) (omega (arith, l, c .before .if1 .taken)))
+array-share-prefix-certificate : tie.Need-array-share-prefix-certificate
+array-share-prefix-certificate c = omega (arith, given-inside (c .before .before .before .before .settle .ensures .1))
 
-write-all-requires : tie.Need-write-all-requires
-write-all-requires c κs = search needs
+slice-aggregate-save : tie.Need-slice-aggregate-save
+slice-aggregate-save c = sym (length-take-le _ _ (omega (arith, given-inside (c .before .before .before .before .before .settle .ensures .1))))
+
+save-requires : tie.Need-save-requires
+save-requires c κs = search needs
 
 returns : tie.Need-returns
 returns c = search needs
+
+array-share-prefix-report : tie.Need-array-share-prefix-report
+array-share-prefix-report c = omega (arith, given-inside (c .before .before .before .settle .ensures .0))
+
+slice-aggregate-write : tie.Need-slice-aggregate-write
+slice-aggregate-write c = sym (length-take-le _ _ (omega (arith, given-inside (c .before .before .before .before .settle .ensures .0))))
+
+write-requires : tie.Need-write-requires
+write-requires c κs = search needs
 
 returns-2 : tie.Need-returns-2
 returns-2 c = search needs
@@ -32,10 +44,14 @@ pub print-spec : {M : Type 1} → statement M
 print-spec =
     tie.close
     (tie.spec
-    slice-aggregate-report
-    report-requires
-    array-share-prefix-text
-    slice-aggregate-write-all
-    write-all-requires
+    slice-aggregate-settle
+    slice-aggregate-settle-2
+    settle-requires
+    array-share-prefix-certificate
+    slice-aggregate-save
+    save-requires
     returns
+    array-share-prefix-report
+    slice-aggregate-write
+    write-requires
     returns-2)

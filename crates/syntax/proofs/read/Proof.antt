@@ -37,7 +37,8 @@ refused-requires-3 : tie.Need-refused-requires-3
 refused-requires-3 c κs = search needs
 
 returns-3 : tie.Need-returns-3
-returns-3 c = answer-refused _ _ _ _ (refused-deep _ (length-is (c .before .before .before)) _ (c .before .before .too-deep .ensures) (c .before .if3 .taken)) (c .refused3 .ensures)
+returns-3 c =
+    answer-refused _ _ _ _ (refused-deep _ (length-is (c .before .before .before)) _ (c .before .before .too-deep .ensures) (c .before .if3 .taken)) (c .refused3 .ensures)
 
 find-fault-requires : tie.Need-find-fault-requires
 find-fault-requires c κs = search needs
@@ -49,8 +50,11 @@ refused-requires-4 : tie.Need-refused-requires-4
 refused-requires-4 c κs = search needs
 
 returns-4 : tie.Need-returns-4
-returns-4 c = let d = c .before .before .before .before .before in
-    answer-refused _ _ _ _ (refused-fault _ (length-is (d .before .before)) (depth-is d) _ _ (c .before .before .before .before .find-fault .ensures) (c .before .before .place .given .1)) (c .refused4 .ensures)
+returns-4 c =
+    let scan = c .before .before .before .before in
+    let d = scan .before in
+    let fault = refused-fault _ (length-is (d .before .before)) (depth-is d) _ _ (scan .find-fault .ensures) (c .before .before .place .given .1) in
+    answer-refused _ _ _ _ fault (c .refused4 .ensures)
 
 enum-told : tie.Need-enum-told
 enum-told c = search needs
@@ -62,9 +66,11 @@ refused-requires-5 : tie.Need-refused-requires-5
 refused-requires-5 c κs = search needs
 
 returns-5 : tie.Need-returns-5
-returns-5 c = let e = c .before .before .before in
+returns-5 c =
+    let e = c .before .before .before in
     let d = e .before .before .before in
-    answer-refused _ _ _ _ (refused-large _ (length-is (d .before .before)) (depth-is d) (fits e) _ (c .before .before .size .ensures) (c .before .if4 .taken)) (c .refused5 .ensures)
+    let large = refused-large _ (length-is (d .before .before)) (depth-is d) (fits e) _ (c .before .before .size .ensures) (c .before .if4 .taken) in
+    answer-refused _ _ _ _ large (c .refused5 .ensures)
 
 empty-requires : tie.Need-empty-requires
 empty-requires c κs = search needs
@@ -73,9 +79,12 @@ implication-requires : tie.Need-implication-requires
 implication-requires c κs = start-asks _ (fits (c .before .before .before)) _ (c .empty .ensures)
 
 returns-6 : tie.Need-returns-6
-returns-6 c = let e = c .before .before .before .before .before in
+returns-6 c =
+    let sized = c .before .before .before in
+    let e = sized .before .before in
     let d = e .before .before .before in
-    accepted _ (length-is (d .before .before)) (depth-is d) (fits e) _ (c .before .before .before .before .size .ensures) (c .before .before .before .if4 .left) _ (c .before .before .empty .ensures) _ (c .before .implication .ensures)
+    accepted _ (length-is (d .before .before)) (depth-is d) (fits e) _ (sized .before .size .ensures) (sized .if4 .left)
+    _ (c .before .before .empty .ensures) _ (c .before .implication .ensures)
 
 pub read-spec : {M : Type 1} → statement M
 read-spec =

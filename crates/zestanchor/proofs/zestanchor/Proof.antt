@@ -1,67 +1,81 @@
--- Each task is done by its calls.
+-- Each task is done by its call.
 use denote.Ref.{now}
-use Rattle.zestanchor.proofs.Tasks.{settle-done, certify-done, check-done, nothing-done}
+use mathlib.Core.Path.{refl}
+use Rattle.judgement.proofs.Fitting.{judged-whole}
+use Rattle.zestanchor.proofs.Tasks.{done-as, nothing-done}
 use borrow.Author.Needs.{needs}
 use Rattle.zestanchor.proofs.zestanchor.Statement.{statement}
 use Rattle.zestanchor.proofs.zestanchor.Tie as tie
+use Rattle.zestanchor.proofs.settle.Reads as settle-reads′
 
 settle-requires : tie.Need-settle-requires
 settle-requires c κs = search needs
-
-report-requires : tie.Need-report-requires
-report-requires c κs = search needs
 
 same-length : tie.Need-same-length
 same-length c = search needs
 
 returns : tie.Need-returns
-returns c = settle-done (c .before .before .before .before .before .before .before .before .args .task) (now (c .before .before .before .before .before .before .before .before .args .input)) _ _ _ (c .before .before .before .before .before .if1 .taken) (c .before .before .before .before .settle .result) (c .before .before .before .before .settle .ensures) (c .before .before .report .ensures)
+returns c =
+    let chosen = c .before .before .before .before in
+    let given = chosen .before .before .before .args in
+    done-as (given .task) 0 (now (given .input)) _ _ _ (chosen .if1 .taken) (c .before .before .settle .ensures)
 
 settle-requires-2 : tie.Need-settle-requires-2
 settle-requires-2 c κs = search needs
 
-write-requires : tie.Need-write-requires
-write-requires c κs = search needs
-
-size-of-requires : tie.Need-size-of-requires
-size-of-requires c κs = search needs
+write-certified-requires : tie.Need-write-certified-requires
+write-certified-requires c κs = search needs
 
 same-length-2 : tie.Need-same-length-2
 same-length-2 c = search needs
 
 returns-2 : tie.Need-returns-2
-returns-2 c = certify-done (c .before .before .before .before .before .before .before .before .before .before .args .task) (now (c .before .before .before .before .before .before .before .before .before .before .args .input)) _ _ _ (c .before .before .before .before .before .before .if2 .taken) (c .before .before .before .before .before .settle2 .result) (c .before .before .before .before .before .settle2 .ensures) _ (c .before .before .before .write .ensures) (c .size-of .ensures)
+returns-2 c =
+    let settled = c .before .before .before .before in
+    let chosen = settled .before in
+    let given = chosen .before .before .before .before .args in
+    done-as (given .task) 1 (now (given .input)) _ _ _ (chosen .if2 .taken) (c .before .before .write-certified .ensures (now (given .input)) (settled .settle2 .ensures))
 
-check-requires : tie.Need-check-requires
-check-requires c κs = search needs
-
-check-report-requires : tie.Need-check-report-requires
-check-report-requires c κs = search needs
+judge-requires : tie.Need-judge-requires
+judge-requires c κs = search needs
 
 same-length-3 : tie.Need-same-length-3
 same-length-3 c = search needs
 
 returns-3 : tie.Need-returns-3
-returns-3 c = check-done (c .before .before .before .before .before .before .before .before .before .before .args .task) (now (c .before .before .before .before .before .before .before .before .before .before .args .input)) _ _ _ (c .before .before .before .before .before .if3 .taken) (c .before .before .before .before .check .result) (c .before .before .before .before .check .ensures) (c .before .before .check-report .ensures)
+returns-3 c =
+    let chosen = c .before .before .before .before in
+    let given = chosen .before .before .before .before .before .args in
+    done-as (given .task) 2 (now (given .input)) _ _ _ (chosen .if3 .taken) (judged-whole (c .before .before .judge .ensures))
+
+certified-length-requires : tie.Need-certified-length-requires
+certified-length-requires c κs = search needs
 
 returns-4 : tie.Need-returns-4
-returns-4 c = nothing-done (c .before .before .before .before .before .args .task) (now (c .before .before .before .before .before .args .input)) _ (c .before .before .if1 .left) (c .before .if2 .left) (c .if3 .left)
+returns-4 c =
+    let chosen = c .before in
+    let given = chosen .before .before .before .before .before .before .args in
+    done-as (given .task) 3 (now (given .input)) _ _ _ (chosen .if4 .taken) (c .certified-length .ensures, refl)
+
+returns-5 : tie.Need-returns-5
+returns-5 c =
+    let given = c .before .before .before .before .before .before .args in
+    nothing-done (given .task) (now (given .input)) _ (c .before .before .before .if1 .left) (c .before .before .if2 .left) (c .before .if3 .left) (c .if4 .left)
 
 pub zestanchor-spec : {M : Type 1} → statement M
 zestanchor-spec =
     tie.close
     (tie.spec
     settle-requires
-    report-requires
     same-length
     returns
     settle-requires-2
-    write-requires
-    size-of-requires
+    write-certified-requires
     same-length-2
     returns-2
-    check-requires
-    check-report-requires
+    judge-requires
     same-length-3
     returns-3
-    returns-4)
+    certified-length-requires
+    returns-4
+    returns-5)

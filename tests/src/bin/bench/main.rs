@@ -3,17 +3,16 @@
 
 mod sets;
 
+use outside::program::{self, SETTLE};
 use outside::proved::{call, Task};
 use outside::report::{report, settle_text};
-use std::io::Write;
-use std::process::{exit, Command, Stdio};
+use std::process::exit;
 use std::time::Instant;
 
 const TURNS: usize = 5;
-const PROGRAM: &str = concat!(env!("CARGO_MANIFEST_DIR"), "/../target/bin/settle");
 
 fn main() {
-    let program = std::env::args().nth(1).unwrap_or(PROGRAM.to_string());
+    let program = std::env::args().nth(1).unwrap_or(SETTLE.to_string());
     println!(
         "{:<30} {:>8} {:^26} {:^26} {:^26}",
         "milliseconds a formula", "", "proved library", "program", "second implementation"
@@ -54,15 +53,7 @@ fn timed(program: &str, formulas: &[Vec<u8>]) -> Vec<[f64; 3]> {
 
 /// What the program prints of a formula on its standard input.
 fn run(program: &str, formula: &[u8]) -> Vec<u8> {
-    let started = Command::new(program).stdin(Stdio::piped()).stdout(Stdio::piped()).spawn();
-    let mut child = started.unwrap_or_else(|error| {
-        eprintln!("{program} does not start: {error}");
-        exit(2)
-    });
-    let mut input = child.stdin.take().expect("its standard input");
-    input.write_all(&[formula, b"\n"].concat()).expect("a formula taken");
-    drop(input);
-    child.wait_with_output().expect("its end").stdout
+    program::run(program, &[], &[formula, b"\n"].concat()).stdout
 }
 
 fn column(times: &[[f64; 3]], side: usize) -> String {

@@ -5,7 +5,7 @@ use crate::Counts;
 use outside::certificate::write;
 use outside::naming::{Flat, Implication, FALSE};
 use outside::proved::{call, Task};
-use outside::random::{formula, Random, Style};
+use outside::random::{bytes_changed, formula, Random, Style};
 use outside::report::Settled;
 use outside::search::{Step, Verdict};
 
@@ -13,7 +13,7 @@ const FORMULAS: [&str; 8] = ["p>p", "0", "0>0", "p|~p", "((p>q)>p)>p", "(p>q>r)>
 
 pub fn compare(random: &mut Random, counts: &mut Counts) {
     for input in FORMULAS {
-        let original = call(Task::WriteCertificate, input.as_bytes());
+        let original = call(Task::Certify, input.as_bytes());
         each_byte(random, &original, counts);
         lengths(&original, counts);
     }
@@ -73,16 +73,6 @@ fn lengths(original: &[u8], counts: &mut Counts) {
     for more in 1..20 {
         judge(&[original, &vec![0; more]].concat(), counts);
     }
-}
-
-fn bytes_changed(random: &mut Random, original: &[u8]) -> Vec<u8> {
-    let mut changed = original.to_vec();
-    for _ in 0..1 + random.below(2) {
-        let at = random.below(changed.len());
-        let flipped = changed[at] ^ 1 << random.below(8);
-        changed[at] = *random.pick(&[flipped, flipped, flipped, 0, 255]);
-    }
-    changed
 }
 
 /// A list with one row repeated, taken out, moved to the end or put through `change`.

@@ -1,37 +1,30 @@
-//! The library's one function: tasks it does not have, and outputs that are too short.
+//! The library's one function: every length of output up to what is needed, and all numbers that are no tasks.
 
-use crate::both::fail;
-use outside::proved::{call, call_into, Task};
+use crate::both::{leaves, writes};
+use outside::certificate;
+use outside::proved::{Task, FIRST_UNKNOWN, NO_TASK};
+use outside::report::{certified, report, settle_text};
+
+const TEXTS: [&[u8]; 5] = [b"p>p", b"((p>q)>p)>p", b"p q", b"", b"0"];
 
 pub fn compare() {
-    let certificate = call(Task::WriteCertificate, b"p>p");
-    let inputs: [(Task, &[u8]); 4] = [
-        (Task::Settle, b"((p>q)>p)>p"),
-        (Task::Settle, b"p q"),
-        (Task::WriteCertificate, b"p>p"),
-        (Task::CheckCertificate, &certificate),
-    ];
-    for (task, input) in inputs {
-        let wanted = call(task, input);
-        for room in 0..wanted.len() {
-            writes(task as u8, input, room, &[]);
+    for text in TEXTS {
+        let outcome = settle_text(text);
+        let sheet = certified(&outcome);
+        each_room(Task::Settle, text, report(&outcome).as_bytes());
+        each_room(Task::Certify, text, &sheet);
+        each_room(Task::Check, &sheet, certificate::verdict_line(&sheet).as_bytes());
+        for room in 0..sheet.len() + 2 {
+            leaves(Task::Length as u8, text, room, sheet.len());
         }
-        writes(task as u8, input, wanted.len(), &wanted);
-        writes(task as u8, input, wanted.len() + 1, &wanted);
-    }
-    for task in 3..=255 {
-        writes(task, b"p>p", 64, &[]);
+        for task in FIRST_UNKNOWN..=255 {
+            leaves(task, text, 64, NO_TASK);
+        }
     }
 }
 
-/// The output begins with `wanted` and keeps its other bytes.
-fn writes(task: u8, input: &[u8], room: usize, wanted: &[u8]) {
-    let mut output = vec![0xa5; room];
-    let length = call_into(task, input, &mut output);
-    let mut expected = vec![0xa5; room];
-    expected[..wanted.len()].copy_from_slice(wanted);
-    if length != wanted.len() || output != expected {
-        let what = format!("task {task} into {room} bytes, {length} said to be written");
-        fail(&what, input, &output, &expected);
+fn each_room(task: Task, input: &[u8], wanted: &[u8]) {
+    for room in 0..wanted.len() + 2 {
+        writes(task, input, room, wanted);
     }
 }

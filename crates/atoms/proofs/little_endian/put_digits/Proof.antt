@@ -42,7 +42,8 @@ loop-again c =
     let s = c .before .before .args in
     let l = c .before .loop in (
       omega arith,
-      subst (λ b. set b (s .at + l .i) (l .rest % 256) ≡ written (s .buffer .now) (s .at) (s .x) (l .i + 1)) (sym (l .inv .1)) (written-next _ (s .at) (s .x) (l .i) (l .rest) (omega arith) (l .inv .2)),
+      subst (λ b. set b (s .at + l .i) (l .rest % 256) ≡ written (s .buffer .now) (s .at) (s .x) (l .i + 1)) (sym (l .inv .1))
+          (written-next _ (s .at) (s .x) (l .i) (l .rest) (omega arith) (l .inv .2)),
       rest-next (s .x) (l .i) (l .rest) (l .inv .2),
     )
 

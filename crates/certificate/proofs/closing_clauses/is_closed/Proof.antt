@@ -5,23 +5,11 @@ use Rattle.certificate.proofs.Closing.{closed-bottom, closed-listed}
 use Rattle.certificate.proofs.closing_clauses.is_closed.Statement.{statement}
 use Rattle.certificate.proofs.closing_clauses.is_closed.Tie as tie
 
-add-byte : tie.Need-add-byte
-add-byte c = search needs
-
-byte-requires : tie.Need-byte-requires
-byte-requires c κs = search needs
-
 returns : tie.Need-returns
-returns c = closed-bottom _ _ _ _ (c .before .byte .ensures) (c .if1 .taken)
+returns c = closed-bottom _ _ (c .if1 .taken)
 
 single-requires : tie.Need-single-requires
 single-requires c κs = search needs
-
-add-byte-2 : tie.Need-add-byte-2
-add-byte-2 c = search needs
-
-byte-requires-2 : tie.Need-byte-requires-2
-byte-requires-2 c κs = search needs
 
 single-requires-2 : tie.Need-single-requires-2
 single-requires-2 c κs = search needs
@@ -31,19 +19,10 @@ has-flat-requires c κs = search needs
 
 returns-2 : tie.Need-returns-2
 returns-2 c =
-    let e = c .before .before .before .before in
-    c .has-flat .ensures ∙ closed-listed _ _ _ _ (e .before .byte .ensures) (e .if1 .left) (e .before .before .before .pre .ranged) _ _ _ (c .before .before .byte2 .ensures) (c .before .before .before .single .ensures) (c .before .single2 .ensures)
+    let named = c .before .before .before in
+    c .has-flat .ensures
+    ∙ closed-listed _ _ (named .if1 .left) (named .before .before .before .pre .ranged) _ _ (c .before .before .single .ensures) (c .before .single2 .ensures)
 
 pub is-closed-spec : {M : Type 1} → statement M
 is-closed-spec =
-    tie.close
-    (tie.spec
-    add-byte
-    byte-requires
-    returns
-    single-requires
-    add-byte-2
-    byte-requires-2
-    single-requires-2
-    has-flat-requires
-    returns-2)
+    tie.close (tie.spec returns single-requires single-requires-2 has-flat-requires returns-2)

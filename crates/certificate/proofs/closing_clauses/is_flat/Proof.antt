@@ -5,35 +5,17 @@ use Rattle.certificate.proofs.Closing.{flat-differs, flat-same}
 use Rattle.certificate.proofs.closing_clauses.is_flat.Statement.{statement}
 use Rattle.certificate.proofs.closing_clauses.is_flat.Tie as tie
 
-load-requires : tie.Need-load-requires
-load-requires c κs = search needs
-
 same-requires : tie.Need-same-requires
 same-requires c κs = search needs
-
-add-load : tie.Need-add-load
-add-load c = search needs
-
-load-requires-2 : tie.Need-load-requires-2
-load-requires-2 c κs = search needs
 
 same-requires-2 : tie.Need-same-requires-2
 same-requires-2 c κs = search needs
 
 returns : tie.Need-returns
-returns c = c .same2 .ensures ∙ flat-same _ _ _ _ _ (c .before .before .before .before .load .ensures) (sym (c .before .before .before .same .ensures) ∙ c .before .before .if1 .taken) _ (c .before .load2 .ensures)
+returns c = c .same2 .ensures ∙ flat-same _ _ _ (sym (c .before .before .same .ensures) ∙ c .before .if1 .taken)
 
 returns-2 : tie.Need-returns-2
-returns-2 c = flat-differs _ _ _ _ _ (c .before .before .load .ensures) (sym (c .before .same .ensures) ∙ c .if1 .left)
+returns-2 c = flat-differs _ _ _ (sym (c .before .same .ensures) ∙ c .if1 .left)
 
 pub is-flat-spec : {M : Type 1} → statement M
-is-flat-spec =
-    tie.close
-    (tie.spec
-    load-requires
-    same-requires
-    add-load
-    load-requires-2
-    same-requires-2
-    returns
-    returns-2)
+is-flat-spec = tie.close (tie.spec same-requires same-requires-2 returns returns-2)

@@ -1,46 +1,77 @@
 -- The implications passed are realized.
+use borrow.Author.Needs.{needs}
 use native.Mathlib.Omega.{arith}
 use borrow.Author.Tests.{not-true, not-false}
 use mathlib.Core.Bool.{true}
 use mathlib.Core.List.{List}
-use mathlib.Core.Path.{_≡_, refl, sym, _∙_}
+use mathlib.Core.Path.{_≡_, refl, sym, ap, ap₂, _∙_}
 use Prim.Native.Nat.{ℕ, _+_, _*_, _-_, _≤_}
 use Rattle.atoms.specs.Words.{num}
 use Rattle.ipl.specs.Lists.{all, tabulate}
 use Rattle.ipl.specs.Clause.{Implication, realizes}
-use Rattle.certificate.specs.Layout.{implicationFrom}
-use Rattle.certificate.specs.Checked.{worldsIn}
+use Rattle.certificate.specs.Format.{implicationBytes, implicationStart, claimStart}
+use Rattle.certificate.specs.Layout.{implicationFrom, implicationsIn, worldsIn, problemIn}
 use Rattle.ipl.proofs.Lists.{all-next, all-fails, all-end}
+use Rattle.certificate.proofs.Numbers.{worlds-there}
 use Rattle.certificate.proofs.countermodel.each_realized.Statement.{statement}
 use Rattle.certificate.proofs.countermodel.each_realized.Tie as tie
 
 abbrev row : List ℕ → ℕ → ℕ → Implication
-row s first k = implicationFrom s (first + 3 * k)
+row s first i = implicationFrom s (first + implicationBytes * i)
+
+from-start : (s : List ℕ) (F X R m first start : ℕ) → first ≡ implicationStart F → start ≡ claimStart F X
+    → all (realizes (worldsIn s start R) m) (implicationsIn s first X) ≡ all (realizes (worldsIn s (claimStart F X) R) m) (problemIn s F X .implications)
+unfolding problemIn
+from-start s F X R m first start ef es = ap₂ (λ y z. all (realizes (worldsIn s z R) m) (implicationsIn s y X)) ef es
 
 abbrev Inv-loop : tie.InvT-loop
-Inv-loop bytes first implications m start count i₀ i = (i ≤ implications) × (all (realizes (worldsIn bytes start count) (num m)) (tabulate (row bytes first) i) ≡ true)
+Inv-loop bytes m count first start worlds i₀ i = (i ≤ count) × (all (realizes (worldsIn bytes start worlds) (num m)) (tabulate (row bytes first) i) ≡ true)
 
 abbrev μ-loop : tie.MeasureT-loop
-μ-loop bytes first implications m start count i₀ i = implications - i
+μ-loop bytes m count first start worlds i₀ i = count - i
+
+cast-count : tie.Need-cast-count Inv-loop μ-loop
+cast-count c = search needs
+
+implications-at-requires : tie.Need-implications-at-requires Inv-loop μ-loop
+implications-at-requires c κs = search needs
+
+claim-at-requires : tie.Need-claim-at-requires Inv-loop μ-loop
+claim-at-requires c κs = search needs
+
+cast-worlds : tie.Need-cast-worlds Inv-loop μ-loop
+cast-worlds c = search needs
 
 loop-holds : tie.Need-loop-holds Inv-loop μ-loop
 unfolding all tabulate
 loop-holds c = (omega arith, refl)
 
-mul-is-realized : tie.Need-mul-is-realized Inv-loop μ-loop
-mul-is-realized c = omega arith
+mul-implication-from : tie.Need-mul-implication-from Inv-loop μ-loop
+mul-implication-from c = search needs
 
-add-is-realized : tie.Need-add-is-realized Inv-loop μ-loop
-add-is-realized c = omega arith
+add-implication-from : tie.Need-add-implication-from Inv-loop μ-loop
+add-implication-from c = search needs
+
+implication-from-requires : tie.Need-implication-from-requires Inv-loop μ-loop
+implication-from-requires c κs = search needs
 
 is-realized-requires : tie.Need-is-realized-requires Inv-loop μ-loop
-is-realized-requires c κs = (omega arith, c .before .before .before .pre .1)
+is-realized-requires c κs =
+    let at-loop = c .before .before in
+    let given = at-loop .before .before .before .before .before .before in
+    omega (arith, worlds-there _ (given .args .k .flats) (given .args .k .implications) (given .args .k .rows) (given .args .k .refuting) (given .pre .0) (given .pre .1))
 
 returns : tie.Need-returns Inv-loop μ-loop
 returns c =
-    let l = c .before .before .before in
-    let s = l .before .before .args in
-    sym (all-fails (realizes (worldsIn (s .bytes .now) (s .start) (s .count)) (num (s .m))) (row (s .bytes .now) (s .first)) (l .loop .i) (s .implications) (omega arith) (sym (c .before .is-realized .ensures) ∙ not-true _ (c .if1 .taken)))
+    let test = c .before in
+    let read = test .before in
+    let at-loop = read .before .before in
+    let places = at-loop .before .before in
+    let given = places .before .before .before .before .args in
+    let at = realizes (worldsIn (given .bytes .now) (places .claim-at .result) (given .k .rows)) (num (given .m)) in
+    sym (all-fails at (row (given .bytes .now) (places .before .implications-at .result)) (at-loop .loop .i) (given .k .implications) (omega arith)
+    (ap at (sym (read .implication-from .ensures)) ∙ sym (test .is-realized .ensures) ∙ not-true _ (c .if1 .taken)))
+    ∙ from-start _ _ _ _ _ _ _ (places .before .implications-at .ensures) (places .claim-at .ensures)
 
 add-i : tie.Need-add-i Inv-loop μ-loop
 add-i c = omega arith
@@ -50,14 +81,25 @@ loop-less c = omega arith
 
 loop-again : tie.Need-loop-again Inv-loop μ-loop
 loop-again c =
-    let l = c .before .before .before in
-    let s = l .before .before .args in
-    (omega arith, all-next (realizes (worldsIn (s .bytes .now) (s .start) (s .count)) (num (s .m))) (row (s .bytes .now) (s .first)) (l .loop .i) (l .loop .inv .1) (sym (c .before .is-realized .ensures) ∙ not-false _ (c .if1 .left)))
+    let test = c .before in
+    let read = test .before in
+    let at-loop = read .before .before in
+    let places = at-loop .before .before in
+    let given = places .before .before .before .before .args in
+    let at = realizes (worldsIn (given .bytes .now) (places .claim-at .result) (given .k .rows)) (num (given .m)) in (
+      omega arith,
+      all-next at (row (given .bytes .now) (places .before .implications-at .result)) (at-loop .loop .i) (at-loop .loop .inv .1)
+          (ap at (sym (read .implication-from .ensures)) ∙ sym (test .is-realized .ensures) ∙ not-false _ (c .if1 .left)),
+    )
 
 returns-2 : tie.Need-returns-2 Inv-loop μ-loop
 returns-2 c =
-    let s = c .before .before .before .args in
-    all-end (realizes (worldsIn (s .bytes .now) (s .start) (s .count)) (num (s .m))) (row (s .bytes .now) (s .first)) (c .before .loop .i) (s .implications) (c .before .loop .inv .0) (omega arith) (c .before .loop .inv .1)
+    let at-loop = c .before in
+    let places = at-loop .before .before in
+    let given = places .before .before .before .before .args in
+    all-end (realizes (worldsIn (given .bytes .now) (places .claim-at .result) (given .k .rows)) (num (given .m)))
+    (row (given .bytes .now) (places .before .implications-at .result)) (at-loop .loop .i) (given .k .implications) (at-loop .loop .inv .0) (omega arith) (at-loop .loop .inv .1)
+    ∙ from-start _ _ _ _ _ _ _ (places .before .implications-at .ensures) (places .claim-at .ensures)
 
 pub each-realized-spec : {M : Type 1} → statement M
 each-realized-spec =
@@ -65,9 +107,14 @@ each-realized-spec =
     (tie.spec
     Inv-loop
     μ-loop
+    cast-count
+    implications-at-requires
+    claim-at-requires
+    cast-worlds
     loop-holds
-    mul-is-realized
-    add-is-realized
+    mul-implication-from
+    add-implication-from
+    implication-from-requires
     is-realized-requires
     returns
     add-i

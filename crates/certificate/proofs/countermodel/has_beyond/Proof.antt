@@ -5,22 +5,24 @@ use mathlib.Core.Bool.{false}
 use mathlib.Core.List.{List}
 use mathlib.Core.Path.{_≡_, refl, sym, ap, _∙_}
 use Prim.Native.Nat.{ℕ, _+_, _*_, _-_, _≤_}
-use Rattle.atoms.specs.Words.{num}
 use Rattle.ipl.specs.Lists.{any, tabulate}
+use Rattle.atoms.specs.Words.{num}
 use Rattle.ipl.specs.Clause.{beyond}
-use Rattle.certificate.specs.Layout.{implicationFrom, worldFrom}
+use Rattle.certificate.specs.Format.{setBytes}
+use Rattle.certificate.specs.Layout.{worldFrom}
+use Rattle.certificate.specs.ReadBack.{implicationOf}
 use Rattle.ipl.proofs.Lists.{any-next, any-found, any-end}
 use Rattle.certificate.proofs.countermodel.has_beyond.Statement.{statement}
 use Rattle.certificate.proofs.countermodel.has_beyond.Tie as tie
 
 abbrev row : List ℕ → ℕ → ℕ → ℕ
-row s start k = worldFrom s (start + 8 * k)
+row s start k = worldFrom s (start + setBytes * k)
 
 abbrev Inv-loop : tie.InvT-loop
-Inv-loop bytes at m start count i₀ i = (i ≤ count) × (any (beyond (implicationFrom bytes at) (num m)) (tabulate (row bytes start) i) ≡ false)
+Inv-loop bytes start count x m i₀ i = (i ≤ count) × (any (beyond (implicationOf x) (num m)) (tabulate (row bytes start) i) ≡ false)
 
 abbrev μ-loop : tie.MeasureT-loop
-μ-loop bytes at m start count i₀ i = count - i
+μ-loop bytes start count x m i₀ i = count - i
 
 loop-holds : tie.Need-loop-holds Inv-loop μ-loop
 unfolding any tabulate
@@ -36,15 +38,16 @@ load-requires : tie.Need-load-requires Inv-loop μ-loop
 load-requires c κs = search needs
 
 is-beyond-requires : tie.Need-is-beyond-requires Inv-loop μ-loop
-is-beyond-requires c κs = omega arith
+is-beyond-requires c κs = search needs
 
 returns : tie.Need-returns Inv-loop μ-loop
 returns c =
-    let t = c .before in
-    let l = t .before .before .before in
-    let s = l .before .before .args in
-    sym (any-found (beyond (implicationFrom (s .bytes .now) (s .at)) (num (s .m))) (row (s .bytes .now) (s .start)) (l .loop .i) (s .count) (omega arith)
-    (ap (beyond (implicationFrom (s .bytes .now) (s .at)) (num (s .m))) (sym (t .before .load .ensures)) ∙ sym (t .is-beyond .ensures) ∙ c .if1 .taken))
+    let test = c .before in
+    let read = test .before in
+    let at-loop = read .before .before in
+    let given = at-loop .before .before .args in
+    sym (any-found (beyond (implicationOf (given .x)) (num (given .m))) (row (given .bytes .now) (given .start)) (at-loop .loop .i) (given .count) (omega arith)
+    (ap (beyond (implicationOf (given .x)) (num (given .m))) (sym (read .load .ensures)) ∙ sym (test .is-beyond .ensures) ∙ c .if1 .taken))
 
 add-i : tie.Need-add-i Inv-loop μ-loop
 add-i c = omega arith
@@ -54,18 +57,21 @@ loop-less c = omega arith
 
 loop-again : tie.Need-loop-again Inv-loop μ-loop
 loop-again c =
-    let t = c .before in
-    let l = t .before .before .before in
-    let s = l .before .before .args in (
+    let test = c .before in
+    let read = test .before in
+    let at-loop = read .before .before in
+    let given = at-loop .before .before .args in (
       omega arith,
-      any-next (beyond (implicationFrom (s .bytes .now) (s .at)) (num (s .m))) (row (s .bytes .now) (s .start)) (l .loop .i) (l .loop .inv .1)
-          (ap (beyond (implicationFrom (s .bytes .now) (s .at)) (num (s .m))) (sym (t .before .load .ensures)) ∙ sym (t .is-beyond .ensures) ∙ c .if1 .left),
+      any-next (beyond (implicationOf (given .x)) (num (given .m))) (row (given .bytes .now) (given .start)) (at-loop .loop .i) (at-loop .loop .inv .1)
+          (ap (beyond (implicationOf (given .x)) (num (given .m))) (sym (read .load .ensures)) ∙ sym (test .is-beyond .ensures) ∙ c .if1 .left),
     )
 
 returns-2 : tie.Need-returns-2 Inv-loop μ-loop
 returns-2 c =
-    let s = c .before .before .before .args in
-    any-end (beyond (implicationFrom (s .bytes .now) (s .at)) (num (s .m))) (row (s .bytes .now) (s .start)) (c .before .loop .i) (s .count) (c .before .loop .inv .0) (omega arith) (c .before .loop .inv .1)
+    let at-loop = c .before in
+    let given = at-loop .before .before .args in
+    any-end (beyond (implicationOf (given .x)) (num (given .m))) (row (given .bytes .now) (given .start)) (at-loop .loop .i) (given .count)
+    (at-loop .loop .inv .0) (omega arith) (at-loop .loop .inv .1)
 
 pub has-beyond-spec : {M : Type 1} → statement M
 has-beyond-spec =

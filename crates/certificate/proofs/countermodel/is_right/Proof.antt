@@ -8,35 +8,30 @@ use Rattle.certificate.proofs.Worlds.{worlds-room, world-listed, world-
 use Rattle.certificate.proofs.countermodel.is_right.Statement.{statement}
 use Rattle.certificate.proofs.countermodel.is_right.Tie as tie
 
-mul-first : tie.Need-mul-first
-mul-first c = search needs
-
-add-first : tie.Need-add-first
-add-first c = search needs
-
-mul-goal : tie.Need-mul-goal
-mul-goal c = search needs
-
-add-goal : tie.Need-add-goal
-add-goal c = search needs
-
-add-start : tie.Need-add-start
-add-start c = search needs
+claim-at-requires : tie.Need-claim-at-requires
+claim-at-requires c κs = search needs
 
 mul-load : tie.Need-mul-load
-mul-load c = omega (arith, worlds-room _ _ _ _ (c .before .before .before .before .before .pre .0), c .before .before .before .before .before .pre .1)
+mul-load c = let given = c .before .before .before .before in omega (arith, worlds-room _ _ _ _ (given .pre .0), given .pre .1)
 
 add-load : tie.Need-add-load
-add-load c = omega (arith, worlds-room _ _ _ _ (c .before .before .before .before .before .pre .0), c .before .before .before .before .before .pre .1)
+add-load c = let given = c .before .before .before .before in omega (arith, worlds-room _ _ _ _ (given .pre .0), given .pre .1, c .claim-at .ensures)
 
 load-requires : tie.Need-load-requires
 load-requires c κs = search needs
 
 is-listed-requires : tie.Need-is-listed-requires
-is-listed-requires c κs = omega (arith, worlds-room _ _ _ _ (c .before .before .before .before .before .before .pre .0), c .before .before .before .before .before .before .pre .1)
+is-listed-requires c κs =
+    let place = c .before in
+    let given = place .before .before .before .before in
+    omega (arith, worlds-room _ _ _ _ (given .pre .0), given .pre .1, place .claim-at .ensures)
 
 returns : tie.Need-returns
-returns c = world-listed _ _ _ _ _ (c .before .before .before .before .before .before .before .before .pre .1) _ (c .before .before .load .ensures) (sym (c .before .is-listed .ensures) ∙ c .if1 .taken)
+returns c =
+    let world = c .before .before in
+    let place = world .before in
+    let given = place .before .before .before .before in
+    world-listed _ _ _ _ _ _ (place .claim-at .ensures) (given .pre .1) _ (world .load .ensures) (sym (c .before .is-listed .ensures) ∙ c .if1 .taken)
 
 load-requires-2 : tie.Need-load-requires-2
 load-requires-2 c κs = search needs
@@ -46,34 +41,54 @@ within-requires c κs = search needs
 
 returns-2 : tie.Need-returns-2
 returns-2 c =
-    let l = c .before .before in
-    let e = l .before in
-    let s = e .before .before .before .before .before .before .before .before in
-    world-outside _ _ _ _ _ (s .pre .1) _ (e .before .before .load .ensures) (sym (e .before .is-listed .ensures) ∙ e .if1 .left) _ (l .load2 .ensures) (sym (c .before .within .ensures) ∙ not-true _ (c .if2 .taken))
+    let first = c .before .before in
+    let after-new = first .before in
+    let world = after-new .before .before in
+    let place = world .before in
+    let given = place .before .before .before .before in
+    world-outside _ _ _ _ _ _ (place .claim-at .ensures) (given .pre .1) _ (world .load .ensures) (sym (after-new .before .is-listed .ensures) ∙ after-new .if1 .left)
+    _ (first .load2 .ensures)
+    (sym (c .before .within .ensures) ∙ not-true _ (c .if2 .taken))
+
+cast-all-hold : tie.Need-cast-all-hold
+cast-all-hold c = search needs
 
 all-hold-requires : tie.Need-all-hold-requires
 all-hold-requires c κs = search needs
 
 returns-3 : tie.Need-returns-3
 returns-3 c =
-    let f = c .before .before in
-    let l = f .before .before in
-    let e = l .before in
-    let s = e .before .before .before .before .before .before .before .before in
-    world-breaks _ _ _ _ _ (s .pre .1) _ (e .before .before .load .ensures) (sym (e .before .is-listed .ensures) ∙ e .if1 .left) _ (l .load2 .ensures) (sym (f .before .within .ensures) ∙ not-false _ (f .if2 .left)) _ _ (s .pre .0 .loaded) (sym (c .before .all-hold .ensures) ∙ not-true _ (c .if3 .taken))
+    let after-first = c .before .before .before in
+    let first = after-first .before .before in
+    let after-new = first .before in
+    let world = after-new .before .before in
+    let place = world .before in
+    let given = place .before .before .before .before in
+    world-breaks _ _ _ _ _ _ (place .claim-at .ensures) (given .pre .1) _ (world .load .ensures) (sym (after-new .before .is-listed .ensures) ∙ after-new .if1 .left)
+    _ (first .load2 .ensures) (sym (after-first .before .within .ensures) ∙ not-false _ (after-first .if2 .left))
+    _ _ (given .pre .0 .loaded) (sym (c .before .all-hold .ensures) ∙ not-true _ (c .if3 .taken))
 
 each-realized-requires : tie.Need-each-realized-requires
-each-realized-requires c κs = (omega (arith, worlds-room _ _ _ _ (c .before .before .before .before .before .before .before .before .before .before .before .before .before .pre .0)), omega (arith, worlds-room _ _ _ _ (c .before .before .before .before .before .before .before .before .before .before .before .before .before .pre .0)))
+each-realized-requires c κs =
+    let given = c .before .before .before .before .before .before .before .before .before .before .before .before .before in
+    (given .pre .0 .ranged .sized, given .pre .0 .refutes)
 
 returns-4 : tie.Need-returns-4
 returns-4 c =
-    let g = c .before .before in
-    let f = g .before .before in
-    let l = f .before .before in
-    let e = l .before in
-    let s = e .before .before .before .before .before .before .before .before in
-    world-unrealized _ _ _ _ _ (s .pre .1) _ (e .before .before .load .ensures) (sym (e .before .is-listed .ensures) ∙ e .if1 .left) _ (l .load2 .ensures) (sym (f .before .within .ensures) ∙ not-false _ (f .if2 .left)) _ _ (s .pre .0 .loaded) (sym (g .before .all-hold .ensures) ∙ not-false _ (g .if3 .left))
+    let after-flats = c .before .before in
+    let after-first = after-flats .before .before .before in
+    let first = after-first .before .before in
+    let after-new = first .before in
+    let world = after-new .before .before in
+    let place = world .before in
+    let given = place .before .before .before .before in
+    world-unrealized _ _ _ _ _ _ (place .claim-at .ensures) (given .pre .1) _ (world .load .ensures) (sym (after-new .before .is-listed .ensures) ∙ after-new .if1 .left)
+    _ (first .load2 .ensures) (sym (after-first .before .within .ensures) ∙ not-false _ (after-first .if2 .left))
+    _ _ (given .pre .0 .loaded) (sym (after-flats .before .all-hold .ensures) ∙ not-false _ (after-flats .if3 .left))
     (sym (c .before .each-realized .ensures) ∙ not-true _ (c .if4 .taken))
+
+goal-at-requires : tie.Need-goal-at-requires
+goal-at-requires c κs = search needs
 
 byte-requires : tie.Need-byte-requires
 byte-requires c κs = search needs
@@ -83,35 +98,40 @@ has-requires c κs = search needs
 
 returns-5 : tie.Need-returns-5
 returns-5 c =
-    let h = c .before .before .before in
-    let g = h .before .before in
-    let f = g .before .before in
-    let l = f .before .before in
-    let e = l .before in
-    let s = e .before .before .before .before .before .before .before .before in
-    ap not (c .has .ensures) ∙ world-goal _ _ _ _ _ (s .pre .1) _ (e .before .before .load .ensures) (sym (e .before .is-listed .ensures) ∙ e .if1 .left) _ (l .load2 .ensures) (sym (f .before .within .ensures) ∙ not-false _ (f .if2 .left)) _ _ (s .pre .0 .loaded) (sym (g .before .all-hold .ensures) ∙ not-false _ (g .if3 .left))
-    (sym (h .before .each-realized .ensures) ∙ not-false _ (h .if4 .left)) (c .before .before .if5 .taken) _ (c .before .byte .ensures)
+    let at-root = c .before .before .before in
+    let after-realized = at-root .before in
+    let after-flats = after-realized .before .before in
+    let after-first = after-flats .before .before .before in
+    let first = after-first .before .before in
+    let after-new = first .before in
+    let world = after-new .before .before in
+    let place = world .before in
+    let given = place .before .before .before .before in
+    ap not (c .has .ensures) ∙ world-goal _ _ _ _ _ _ (place .claim-at .ensures) (given .pre .1) _ (world .load .ensures) (sym (after-new .before .is-listed .ensures) ∙ after-new .if1 .left)
+    _ (first .load2 .ensures) (sym (after-first .before .within .ensures) ∙ not-false _ (after-first .if2 .left))
+    _ _ (given .pre .0 .loaded) (sym (after-flats .before .all-hold .ensures) ∙ not-false _ (after-flats .if3 .left))
+    (sym (after-realized .before .each-realized .ensures) ∙ not-false _ (after-realized .if4 .left)) (at-root .if5 .taken) _ (c .before .before .goal-at .ensures) _ (c .before .byte .ensures)
 
 returns-6 : tie.Need-returns-6
 returns-6 c =
-    let h = c .before in
-    let g = h .before .before in
-    let f = g .before .before in
-    let l = f .before .before in
-    let e = l .before in
-    let s = e .before .before .before .before .before .before .before .before in
-    world-later _ _ _ _ _ (s .pre .1) _ (e .before .before .load .ensures) (sym (e .before .is-listed .ensures) ∙ e .if1 .left) _ (l .load2 .ensures) (sym (f .before .within .ensures) ∙ not-false _ (f .if2 .left)) _ _ (s .pre .0 .loaded) (sym (g .before .all-hold .ensures) ∙ not-false _ (g .if3 .left))
-    (sym (h .before .each-realized .ensures) ∙ not-false _ (h .if4 .left)) (c .if5 .left)
+    let after-realized = c .before in
+    let after-flats = after-realized .before .before in
+    let after-first = after-flats .before .before .before in
+    let first = after-first .before .before in
+    let after-new = first .before in
+    let world = after-new .before .before in
+    let place = world .before in
+    let given = place .before .before .before .before in
+    world-later _ _ _ _ _ _ (place .claim-at .ensures) (given .pre .1) _ (world .load .ensures) (sym (after-new .before .is-listed .ensures) ∙ after-new .if1 .left)
+    _ (first .load2 .ensures) (sym (after-first .before .within .ensures) ∙ not-false _ (after-first .if2 .left))
+    _ _ (given .pre .0 .loaded) (sym (after-flats .before .all-hold .ensures) ∙ not-false _ (after-flats .if3 .left))
+    (sym (after-realized .before .each-realized .ensures) ∙ not-false _ (after-realized .if4 .left)) (c .if5 .left)
 
 pub is-right-spec : {M : Type 1} → statement M
 is-right-spec =
     tie.close
     (tie.spec
-    mul-first
-    add-first
-    mul-goal
-    add-goal
-    add-start
+    claim-at-requires
     mul-load
     add-load
     load-requires
@@ -120,10 +140,12 @@ is-right-spec =
     load-requires-2
     within-requires
     returns-2
+    cast-all-hold
     all-hold-requires
     returns-3
     each-realized-requires
     returns-4
+    goal-at-requires
     byte-requires
     has-requires
     returns-5

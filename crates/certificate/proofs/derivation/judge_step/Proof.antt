@@ -1,4 +1,4 @@
--- The question and the clause of the step.
+-- What is asked and added is what the definition asks and adds.
 use borrow.Author.Needs.{needs}
 use native.Mathlib.Omega.{arith}
 use mathlib.Core.Path.{_∙_}
@@ -6,62 +6,48 @@ use Rattle.certificate.proofs.Learning.{steps-room, number-small, step-
 use Rattle.certificate.proofs.derivation.judge_step.Statement.{statement}
 use Rattle.certificate.proofs.derivation.judge_step.Tie as tie
 
-mul-start : tie.Need-mul-start
-mul-start c = search needs
+claim-at-requires : tie.Need-claim-at-requires
+claim-at-requires c κs = search needs
 
-add-start : tie.Need-add-start
-add-start c = search needs
+mul-step-from : tie.Need-mul-step-from
+mul-step-from c = let given = c .before .before .before .before in omega (arith, steps-room _ _ (given .pre .ranged) (given .pre .derives), given .pre .listed)
 
-mul-at : tie.Need-mul-at
-mul-at c = search needs
+add-step-from : tie.Need-add-step-from
+add-step-from c = let given = c .before .before .before .before in omega (arith, steps-room _ _ (given .pre .ranged) (given .pre .derives), given .pre .listed, c .claim-at .ensures)
 
-add-at : tie.Need-add-at
-add-at c = search needs
+step-from-requires : tie.Need-step-from-requires
+step-from-requires c κs = let given = c .before .before .before .before in omega (arith, steps-room _ _ (given .pre .ranged) (given .pre .derives), given .pre .listed, c .claim-at .ensures)
 
-add-at-2 : tie.Need-add-at-2
-add-at-2 c = search needs
+implications-at-requires : tie.Need-implications-at-requires
+implications-at-requires c κs = search needs
 
-mul-at-2 : tie.Need-mul-at-2
-mul-at-2 c = omega (arith, steps-room _ _ (c .before .before .before .before .before .pre .ranged) (c .before .before .before .before .before .pre .derives), c .before .before .before .before .before .pre .listed)
+cast-place : tie.Need-cast-place
+cast-place c = search needs
 
-add-at-3 : tie.Need-add-at-3
-add-at-3 c = omega (arith, steps-room _ _ (c .before .before .before .before .before .pre .ranged) (c .before .before .before .before .before .pre .derives), c .before .before .before .before .before .pre .listed)
+mul-place : tie.Need-mul-place
+mul-place c = search needs
+
+add-place : tie.Need-add-place
+add-place c = search needs
+
+implication-from-requires : tie.Need-implication-from-requires
+implication-from-requires c κs =
+    let read = c .before .before in
+    let given = read .before .before .before .before .before in
+    let small = number-small _ _ (given .pre .ranged) (given .pre .derives) _ (given .pre .listed) _ (read .before .claim-at .ensures) _ (read .step-from .ensures) in
+    omega (arith, given .pre .ranged .sized, c .before .implications-at .ensures)
+
+cast-last : tie.Need-cast-last
+cast-last c = search needs
+
+add-last : tie.Need-add-last
+add-last c = search needs
 
 byte-requires : tie.Need-byte-requires
 byte-requires c κs = search needs
 
-cast-row : tie.Need-cast-row
-cast-row c = search needs
-
-mul-row : tie.Need-mul-row
-mul-row c = search needs
-
-add-row : tie.Need-add-row
-add-row c = search needs
-
-add-load : tie.Need-add-load
-add-load c = omega (arith, steps-room _ _ (c .before .before .before .before .before .before .pre .ranged) (c .before .before .before .before .before .before .pre .derives), c .before .before .before .before .before .before .pre .listed)
-
-load-requires : tie.Need-load-requires
-load-requires c κs = search needs
-
-add-last : tie.Need-add-last
-add-last c = omega (arith, steps-room _ _ (c .before .before .before .before .before .before .before .before .pre .ranged) (c .before .before .before .before .before .before .before .before .pre .derives), c .before .before .before .before .before .before .before .before .pre .listed)
-
-byte-requires-2 : tie.Need-byte-requires-2
-byte-requires-2 c κs = search needs
-
-add-byte : tie.Need-add-byte
-add-byte c = search needs
-
-byte-requires-3 : tie.Need-byte-requires-3
-byte-requires-3 c κs = search needs
-
 proves-requires : tie.Need-proves-requires
 proves-requires c κs = search needs
-
-byte-requires-4 : tie.Need-byte-requires-4
-byte-requires-4 c κs = search needs
 
 single-requires : tie.Need-single-requires
 single-requires c κs = search needs
@@ -71,12 +57,6 @@ without-requires c κs = search needs
 
 set-row-requires : tie.Need-set-row-requires
 set-row-requires c κs = search needs
-
-add-byte-2 : tie.Need-add-byte-2
-add-byte-2 c = let s = c .before .before .before .before .before .before .before .before .before .before .before .before .before .before .before .before .before .before .before .before .before in omega (arith, steps-room _ _ (c .before .before .before .before .before .before .before .before .before .before .before .before .before .before .before .before .before .before .before .before .before .pre .ranged) (c .before .before .before .before .before .before .before .before .before .before .before .before .before .before .before .before .before .before .before .before .before .pre .derives), number-small _ _ (s .pre .ranged) (s .pre .derives) _ (s .pre .listed), c .before .before .before .before .before .before .before .before .before .before .before .before .before .before .before .byte .ensures)
-
-byte-requires-5 : tie.Need-byte-requires-5
-byte-requires-5 c κs = search needs
 
 single-requires-2 : tie.Need-single-requires-2
 single-requires-2 c κs = search needs
@@ -92,48 +72,45 @@ same-length-2 c = search needs
 
 returns : tie.Need-returns
 returns c =
-    let w = c .before .before .before .before .before .before .before .before in
-    let p = w .before .before .before .before .before in
-    let a = p .before .before .before .before .before .before in
-    let s = a .before .before .before .before .before .before .before in
-    let known = s .pre .loaded in
+    let left-set = c .before .before .before .before .before .before .before in
+    let asked = left-set .before .before .before .before in
+    let x-read = asked .before .before .before .before .before in
+    let step-read = x-read .before .before .before in
+    let given = step-read .before .before .before .before .before in
+    let known = given .pre .loaded in
     record {
-      judged = p .proves .ensures ∙ step-judged _ _ (s .pre .ranged) (s .pre .derives) _ (s .pre .listed) _ (a .before .byte .ensures) _ (a .load .ensures) _ _ known _ _ (p .before .before .byte2 .ensures) (p .before .byte3 .ensures);
-      size-left = w .set-row .ensures .size;
+      judged = asked .proves .ensures ∙ step-judged _ _ (given .pre .ranged) (given .pre .derives) _ (given .pre .listed)
+          _ (step-read .before .claim-at .ensures) _ (step-read .step-from .ensures) _ (x-read .before .before .implications-at .ensures) _ (x-read .implication-from .ensures) _ _ known
+          _ (asked .before .byte .ensures);
+      size-left = left-set .set-row .ensures .size;
       size-right = c .before .before .set-row2 .ensures .size;
-      loaded = step-loaded _ _ (s .pre .ranged) (s .pre .derives) _ (s .pre .listed) _ (a .before .byte .ensures) _ (a .load .ensures) _ _ known
-          _ _ _ _ _ _ (w .before .before .before .byte4 .ensures) (c .before .before .before .before .byte5 .ensures) (w .before .before .single .ensures) (c .before .before .before .single2 .ensures)
-          (omega (arith, s .pre .room-left, s .pre .listed)) (omega (arith, s .pre .room-right, s .pre .listed)) _ (w .before .without .ensures) (w .set-row .ensures) (c .before .before .set-row2 .ensures);
+      loaded = step-loaded _ _ (given .pre .ranged) (given .pre .derives) _ (given .pre .listed)
+          _ (step-read .before .claim-at .ensures) _ (step-read .step-from .ensures) _ (x-read .before .before .implications-at .ensures) _ (x-read .implication-from .ensures) _ _ known
+          _ _ _ _ (left-set .before .before .single .ensures) (c .before .before .before .single2 .ensures)
+          (omega (arith, given .pre .room-left, given .pre .listed)) (omega (arith, given .pre .room-right, given .pre .listed))
+          _ (left-set .before .without .ensures) (left-set .set-row .ensures) (c .before .before .set-row2 .ensures);
     }
 
 pub judge-step-spec : {M : Type 1} → statement M
 judge-step-spec =
     tie.close
     (tie.spec
-    mul-start
-    add-start
-    mul-at
-    add-at
-    add-at-2
-    mul-at-2
-    add-at-3
-    byte-requires
-    cast-row
-    mul-row
-    add-row
-    add-load
-    load-requires
+    claim-at-requires
+    mul-step-from
+    add-step-from
+    step-from-requires
+    implications-at-requires
+    cast-place
+    mul-place
+    add-place
+    implication-from-requires
+    cast-last
     add-last
-    byte-requires-2
-    add-byte
-    byte-requires-3
+    byte-requires
     proves-requires
-    byte-requires-4
     single-requires
     without-requires
     set-row-requires
-    add-byte-2
-    byte-requires-5
     single-requires-2
     set-row-requires-2
     same-length

@@ -5,7 +5,7 @@ use borrow.Author.Tests.{not-true, not-false}
 use mathlib.Core.Path.{sym, _∙_}
 use Prim.Native.Nat.{_-_}
 use Rattle.atoms.proofs.Machine.{num-empty}
-use Rattle.ipl.proofs.Lists.{tabulate-length}
+use Rattle.certificate.proofs.Tables.{steps-length}
 use Rattle.certificate.proofs.FirstWrong.{step-wrong, goal-wrong, goal-right}
 use Rattle.certificate.proofs.Learning.{steps-room, goal-judged, Progress, progress-none, progress-ready, progress-next}
 use Rattle.certificate.proofs.derivation.judge_steps.Statement.{statement}
@@ -17,23 +17,28 @@ Inv-loop bytes k left₀ right₀ count i₀ left right i = Progress bytes k i l
 abbrev μ-loop : tie.MeasureT-loop
 μ-loop bytes k left₀ right₀ count i₀ left right i = k .rows - i
 
+cast-count : tie.Need-cast-count Inv-loop μ-loop
+cast-count c = search needs
+
 loop-holds : tie.Need-loop-holds Inv-loop μ-loop
-loop-holds c = progress-none _ _ _ _ (c .before .before .before .pre)
+loop-holds c = progress-none _ _ _ _ (c .before .before .before .before .pre)
 
 judge-step-requires : tie.Need-judge-step-requires Inv-loop μ-loop
-judge-step-requires c κs = progress-ready _ _ _ _ (c .before .before .before .before .before .before .before .pre) _ _ _ (c .before .before .before .loop .inv) (omega arith)
+judge-step-requires c κs =
+    let at-loop = c .before .before .before in
+    progress-ready _ _ _ _ (at-loop .before .before .before .before .before .pre) _ _ _ (at-loop .loop .inv) (omega arith)
 
 same-length : tie.Need-same-length Inv-loop μ-loop
-same-length c = c .before .before .before .before .before .judge-step .ensures .size-left ∙ c .before .before .before .before .before .before .before .before .before .loop .inv .size-left
+same-length c = let step = c .before .before .before .before .before in step .judge-step .ensures .size-left ∙ step .before .before .before .before .loop .inv .size-left
 
 same-length-2 : tie.Need-same-length-2 Inv-loop μ-loop
-same-length-2 c = c .before .before .before .before .before .judge-step .ensures .size-right ∙ c .before .before .before .before .before .before .before .before .before .loop .inv .size-right
+same-length-2 c = let step = c .before .before .before .before .before in step .judge-step .ensures .size-right ∙ step .before .before .before .before .loop .inv .size-right
 
 returns : tie.Need-returns Inv-loop μ-loop
 returns c =
-    let j = c .before .before .before .before .before in
-    let l = j .before .before .before .before in
-    step-wrong _ _ _ (tabulate-length _ _) (l .loop .i) (omega arith) (l .loop .inv .proved) (sym (j .judge-step .ensures .judged) ∙ not-true _ (c .if1 .taken))
+    let step = c .before .before .before .before .before in
+    let at-loop = step .before .before .before .before in
+    step-wrong _ _ _ (steps-length _ _ _) (at-loop .loop .i) (omega arith) (at-loop .loop .inv .proved) (sym (step .judge-step .ensures .judged) ∙ not-true _ (c .if1 .taken))
 
 add-i : tie.Need-add-i Inv-loop μ-loop
 add-i c = omega arith
@@ -43,27 +48,22 @@ loop-less c = omega arith
 
 loop-again : tie.Need-loop-again Inv-loop μ-loop
 loop-again c =
-    let j = c .before .before .before .before .before in
-    let l = j .before .before .before .before in
-    progress-next _ _ _ _ (l .before .before .before .before .pre) (l .loop .i) _ _ (l .loop .inv) (omega arith) _ _ _ (j .judge-step .ensures) (not-false _ (c .if1 .left))
+    let step = c .before .before .before .before .before in
+    let at-loop = step .before .before .before .before in
+    progress-next _ _ _ _ (at-loop .before .before .before .before .before .pre) (at-loop .loop .i) _ _ (at-loop .loop .inv) (omega arith)
+    _ _ _ (step .judge-step .ensures) (not-false _ (c .if1 .left))
 
-mul-byte : tie.Need-mul-byte Inv-loop μ-loop
-mul-byte c = omega (arith, steps-room _ _ (c .before .before .before .before .before .before .pre .ranged) (c .before .before .before .before .before .before .pre .derives))
-
-add-byte : tie.Need-add-byte Inv-loop μ-loop
-add-byte c = omega (arith, steps-room _ _ (c .before .before .before .before .before .before .pre .ranged) (c .before .before .before .before .before .before .pre .derives))
-
-mul-byte-2 : tie.Need-mul-byte-2 Inv-loop μ-loop
-mul-byte-2 c = omega (arith, steps-room _ _ (c .before .before .before .before .before .before .before .pre .ranged) (c .before .before .before .before .before .before .before .pre .derives))
-
-add-byte-2 : tie.Need-add-byte-2 Inv-loop μ-loop
-add-byte-2 c = omega (arith, steps-room _ _ (c .before .before .before .before .before .before .before .pre .ranged) (c .before .before .before .before .before .before .before .pre .derives))
+goal-at-requires : tie.Need-goal-at-requires Inv-loop μ-loop
+goal-at-requires c κs = search needs
 
 byte-requires : tie.Need-byte-requires Inv-loop μ-loop
 byte-requires c κs = search needs
 
+cast-proves : tie.Need-cast-proves Inv-loop μ-loop
+cast-proves c = search needs
+
 add-proves : tie.Need-add-proves Inv-loop μ-loop
-add-proves c = omega (arith, steps-room _ _ (c .before .before .before .before .before .before .before .before .before .before .before .pre .ranged) (c .before .before .before .before .before .before .before .before .before .before .before .pre .derives))
+add-proves c = let given = c .before .before .before .before .before .before .before .before .before .before .before in omega (arith, steps-room _ _ (given .pre .ranged) (given .pre .derives))
 
 byte-requires-2 : tie.Need-byte-requires-2 Inv-loop μ-loop
 byte-requires-2 c κs = search needs
@@ -72,30 +72,36 @@ proves-requires : tie.Need-proves-requires Inv-loop μ-loop
 proves-requires c κs = search needs
 
 same-length-3 : tie.Need-same-length-3 Inv-loop μ-loop
-same-length-3 c = c .before .before .before .before .before .before .before .before .before .before .loop .inv .size-left
+same-length-3 c = c .before .before .before .before .before .before .before .before .before .loop .inv .size-left
 
 same-length-4 : tie.Need-same-length-4 Inv-loop μ-loop
-same-length-4 c = c .before .before .before .before .before .before .before .before .before .before .loop .inv .size-right
+same-length-4 c = c .before .before .before .before .before .before .before .before .before .loop .inv .size-right
 
 returns-2 : tie.Need-returns-2 Inv-loop μ-loop
 returns-2 c =
-    let l = c .before .before .before .before .before .before .before .before .before .before in
-    let s = l .before .before .before .before in
-    goal-right _ _ _ (tabulate-length _ _) (l .loop .i) (omega arith) (l .loop .inv .proved)
-    (sym (goal-judged _ _ (s .pre .ranged) (s .pre .derives) (l .loop .i) (omega (arith, l .loop .inv .few)) _ _ (l .loop .inv .loaded) _ _ _ (c .before .before .byte2 .ensures) (c .before .before .before .before .before .before .byte .ensures) num-empty) ∙ sym (c .before .proves .ensures) ∙ c .if2 .taken)
+    let asked = c .before in
+    let goal = asked .before .before .before .before .before in
+    let at-loop = goal .before .before .before in
+    let given = at-loop .before .before .before .before .before in
+    goal-right _ _ _ (steps-length _ _ _) (at-loop .loop .i) (omega arith) (at-loop .loop .inv .proved)
+    (sym (goal-judged _ _ (given .pre .ranged) (given .pre .derives) (at-loop .loop .i) (omega (arith, at-loop .loop .inv .few)) _ _ (at-loop .loop .inv .loaded)
+    _ _ _ _ (asked .before .byte2 .ensures) (goal .before .goal-at .ensures) (goal .byte .ensures) num-empty) ∙ sym (asked .proves .ensures) ∙ c .if2 .taken)
 
 same-length-5 : tie.Need-same-length-5 Inv-loop μ-loop
-same-length-5 c = c .before .before .before .before .before .before .before .before .before .before .loop .inv .size-left
+same-length-5 c = c .before .before .before .before .before .before .before .before .before .loop .inv .size-left
 
 same-length-6 : tie.Need-same-length-6 Inv-loop μ-loop
-same-length-6 c = c .before .before .before .before .before .before .before .before .before .before .loop .inv .size-right
+same-length-6 c = c .before .before .before .before .before .before .before .before .before .loop .inv .size-right
 
 returns-3 : tie.Need-returns-3 Inv-loop μ-loop
 returns-3 c =
-    let l = c .before .before .before .before .before .before .before .before .before .before in
-    let s = l .before .before .before .before in
-    goal-wrong _ _ _ (tabulate-length _ _) (l .loop .i) (omega arith) (l .loop .inv .proved)
-    (sym (goal-judged _ _ (s .pre .ranged) (s .pre .derives) (l .loop .i) (omega (arith, l .loop .inv .few)) _ _ (l .loop .inv .loaded) _ _ _ (c .before .before .byte2 .ensures) (c .before .before .before .before .before .before .byte .ensures) num-empty) ∙ sym (c .before .proves .ensures) ∙ c .if2 .left)
+    let asked = c .before in
+    let goal = asked .before .before .before .before .before in
+    let at-loop = goal .before .before .before in
+    let given = at-loop .before .before .before .before .before in
+    goal-wrong _ _ _ (steps-length _ _ _) (at-loop .loop .i) (omega arith) (at-loop .loop .inv .proved)
+    (sym (goal-judged _ _ (given .pre .ranged) (given .pre .derives) (at-loop .loop .i) (omega (arith, at-loop .loop .inv .few)) _ _ (at-loop .loop .inv .loaded)
+    _ _ _ _ (asked .before .byte2 .ensures) (goal .before .goal-at .ensures) (goal .byte .ensures) num-empty) ∙ sym (asked .proves .ensures) ∙ c .if2 .left)
 
 pub judge-steps-spec : {M : Type 1} → statement M
 judge-steps-spec =
@@ -103,6 +109,7 @@ judge-steps-spec =
     (tie.spec
     Inv-loop
     μ-loop
+    cast-count
     loop-holds
     judge-step-requires
     same-length
@@ -111,11 +118,9 @@ judge-steps-spec =
     add-i
     loop-less
     loop-again
-    mul-byte
-    add-byte
-    mul-byte-2
-    add-byte-2
+    goal-at-requires
     byte-requires
+    cast-proves
     add-proves
     byte-requires-2
     proves-requires

@@ -2,21 +2,37 @@
 use borrow.Author.Needs.{needs}
 use native.Mathlib.Omega.{arith}
 use mathlib.Core.Path.{refl}
+use Prim.Native.Nat.{_+_}
+use Rattle.ipl.specs.Range.{flatTable, stepTable}
+use Rattle.certificate.specs.Format.{setBytes, flatStart}
 use Rattle.certificate.proofs.Judging.{flats-fit, column-there, steps-ready}
 use Rattle.certificate.proofs.derivation.wrong_step.Statement.{statement}
 use Rattle.certificate.proofs.derivation.wrong_step.Tie as tie
+
+cast-load-column : tie.Need-cast-load-column
+cast-load-column c = search needs
 
 slice-aggregate-load-column : tie.Need-slice-aggregate-load-column
 slice-aggregate-load-column c = search needs
 
 load-column-requires : tie.Need-load-column-requires
-load-column-requires c κs = let r = c .before .before .pre .0 in (column-there _ _ r 38 (omega arith), flats-fit _ _ r _ 1024 refl (omega arith))
+load-column-requires c κs =
+    let ranged = c .before .before .before .pre .0 in
+    (column-there _ _ ranged flatStart (omega arith), flats-fit _ _ ranged _ (flatTable + stepTable) refl (omega arith))
+
+add-load-column : tie.Need-add-load-column
+add-load-column c = search needs
+
+cast-load-column-2 : tie.Need-cast-load-column-2
+cast-load-column-2 c = search needs
 
 slice-aggregate-load-column-2 : tie.Need-slice-aggregate-load-column-2
 slice-aggregate-load-column-2 c = search needs
 
 load-column-requires-2 : tie.Need-load-column-requires-2
-load-column-requires-2 c κs = let r = c .before .before .before .before .before .pre .0 in (column-there _ _ r 46 (omega arith), flats-fit _ _ r _ 1024 refl (omega arith))
+load-column-requires-2 c κs =
+    let ranged = c .before .before .before .before .before .before .before .pre .0 in
+    (column-there _ _ ranged (flatStart + setBytes) (omega arith), flats-fit _ _ ranged _ (flatTable + stepTable) refl (omega arith))
 
 slice-aggregate-judge-steps : tie.Need-slice-aggregate-judge-steps
 slice-aggregate-judge-steps c = search needs
@@ -25,7 +41,11 @@ slice-aggregate-judge-steps-2 : tie.Need-slice-aggregate-judge-steps-2
 slice-aggregate-judge-steps-2 c = search needs
 
 judge-steps-requires : tie.Need-judge-steps-requires
-judge-steps-requires c κs = let s = c .before .before .before .before .before .before .before .before .before in steps-ready _ _ (s .pre .0) _ _ _ _ (c .before .before .before .before .before .before .load-column .ensures) (c .before .before .before .load-column2 .ensures) (s .pre .1) refl refl
+judge-steps-requires c κs =
+    let right-loaded = c .before .before .before in
+    let left-loaded = right-loaded .before .before .before .before in
+    let given = left-loaded .before .before .before .before in
+    steps-ready _ _ (given .pre .0) _ _ _ _ (left-loaded .load-column .ensures) (right-loaded .load-column2 .ensures) (given .pre .1) refl refl
 
 returns : tie.Need-returns
 returns c = search needs
@@ -34,8 +54,11 @@ pub wrong-step-spec : {M : Type 1} → statement M
 wrong-step-spec =
     tie.close
     (tie.spec
+    cast-load-column
     slice-aggregate-load-column
     load-column-requires
+    add-load-column
+    cast-load-column-2
     slice-aggregate-load-column-2
     load-column-requires-2
     slice-aggregate-judge-steps

@@ -1,20 +1,22 @@
 -- The clauses passed are in range.
+use borrow.Author.Needs.{needs}
 use native.Mathlib.Omega.{arith}
 use borrow.Author.Tests.{not-true, not-false}
 use mathlib.Core.Bool.{true}
 use mathlib.Core.List.{List}
-use mathlib.Core.Path.{_≡_, refl, sym, _∙_}
+use mathlib.Core.Path.{_≡_, refl, sym, ap, _∙_}
 use Prim.Native.Nat.{ℕ, _+_, _*_, _-_, _≤_}
 use Rattle.ipl.specs.Lists.{all, tabulate}
 use Rattle.ipl.specs.Clause.{Flat}
-use Rattle.certificate.specs.Layout.{flatFrom}
 use Rattle.ipl.specs.Range.{flatInRange}
+use Rattle.certificate.specs.Format.{flatBytes, flatStart}
+use Rattle.certificate.specs.Layout.{flatFrom}
 use Rattle.ipl.proofs.Lists.{all-next, all-fails, all-end}
 use Rattle.certificate.proofs.ranges.flats_in_range.Statement.{statement}
 use Rattle.certificate.proofs.ranges.flats_in_range.Tie as tie
 
 abbrev row : List ℕ → ℕ → Flat
-row s k = flatFrom s (38 + 16 * k)
+row s k = flatFrom s (flatStart + flatBytes * k)
 
 abbrev Inv-loop : tie.InvT-loop
 Inv-loop bytes count n i₀ i = (i ≤ count) × (all (flatInRange n) (tabulate (row bytes) i) ≡ true)
@@ -26,21 +28,26 @@ loop-holds : tie.Need-loop-holds Inv-loop μ-loop
 unfolding all tabulate
 loop-holds c = (omega arith, refl)
 
-mul-flat-in-range : tie.Need-mul-flat-in-range Inv-loop μ-loop
-mul-flat-in-range c = omega arith
+mul-flat-from : tie.Need-mul-flat-from Inv-loop μ-loop
+mul-flat-from c = omega arith
 
-add-flat-in-range : tie.Need-add-flat-in-range Inv-loop μ-loop
-add-flat-in-range c = omega arith
+add-flat-from : tie.Need-add-flat-from Inv-loop μ-loop
+add-flat-from c = omega arith
+
+flat-from-requires : tie.Need-flat-from-requires Inv-loop μ-loop
+flat-from-requires c κs = omega arith
 
 flat-in-range-requires : tie.Need-flat-in-range-requires Inv-loop μ-loop
-flat-in-range-requires c κs = omega arith
+flat-in-range-requires c κs = search needs
 
 returns : tie.Need-returns Inv-loop μ-loop
 returns c =
-    let t = c .before in
-    let l = t .before .before in
-    let s = l .before .before .args in
-    sym (all-fails (flatInRange (s .n)) (row (s .bytes .now)) (l .loop .i) (s .count) (omega arith) (sym (t .flat-in-range .ensures) ∙ not-true _ (c .if1 .taken)))
+    let test = c .before in
+    let read = test .before in
+    let at-loop = read .before .before in
+    let given = at-loop .before .before .args in
+    sym (all-fails (flatInRange (given .n)) (row (given .bytes .now)) (at-loop .loop .i) (given .count) (omega arith)
+    (ap (flatInRange (given .n)) (sym (read .flat-from .ensures)) ∙ sym (test .flat-in-range .ensures) ∙ not-true _ (c .if1 .taken)))
 
 add-i : tie.Need-add-i Inv-loop μ-loop
 add-i c = omega arith
@@ -50,15 +57,20 @@ loop-less c = omega arith
 
 loop-again : tie.Need-loop-again Inv-loop μ-loop
 loop-again c =
-    let t = c .before in
-    let l = t .before .before in
-    let s = l .before .before .args in
-    (omega arith, all-next (flatInRange (s .n)) (row (s .bytes .now)) (l .loop .i) (l .loop .inv .1) (sym (t .flat-in-range .ensures) ∙ not-false _ (c .if1 .left)))
+    let test = c .before in
+    let read = test .before in
+    let at-loop = read .before .before in
+    let given = at-loop .before .before .args in (
+      omega arith,
+      all-next (flatInRange (given .n)) (row (given .bytes .now)) (at-loop .loop .i) (at-loop .loop .inv .1)
+          (ap (flatInRange (given .n)) (sym (read .flat-from .ensures)) ∙ sym (test .flat-in-range .ensures) ∙ not-false _ (c .if1 .left)),
+    )
 
 returns-2 : tie.Need-returns-2 Inv-loop μ-loop
 returns-2 c =
-    let s = c .before .before .before .args in
-    all-end (flatInRange (s .n)) (row (s .bytes .now)) (c .before .loop .i) (s .count) (c .before .loop .inv .0) (omega arith) (c .before .loop .inv .1)
+    let at-loop = c .before in
+    let given = at-loop .before .before .args in
+    all-end (flatInRange (given .n)) (row (given .bytes .now)) (at-loop .loop .i) (given .count) (at-loop .loop .inv .0) (omega arith) (at-loop .loop .inv .1)
 
 pub flats-in-range-spec : {M : Type 1} → statement M
 flats-in-range-spec =
@@ -67,8 +79,9 @@ flats-in-range-spec =
     Inv-loop
     μ-loop
     loop-holds
-    mul-flat-in-range
-    add-flat-in-range
+    mul-flat-from
+    add-flat-from
+    flat-from-requires
     flat-in-range-requires
     returns
     add-i

@@ -1,19 +1,21 @@
 -- The steps passed are in range.
+use borrow.Author.Needs.{needs}
 use native.Mathlib.Omega.{arith}
 use borrow.Author.Tests.{not-true, not-false}
 use mathlib.Core.Bool.{true}
 use mathlib.Core.List.{List}
-use mathlib.Core.Path.{_≡_, refl, sym, _∙_}
+use mathlib.Core.Path.{_≡_, refl, sym, ap, _∙_}
 use Prim.Native.Nat.{ℕ, _+_, _*_, _-_, _≤_}
 use Rattle.ipl.specs.Lists.{all, tabulate}
 use Rattle.ipl.specs.Search.{Step, stepInRange}
+use Rattle.certificate.specs.Format.{stepBytes}
 use Rattle.certificate.specs.Layout.{stepFrom}
 use Rattle.ipl.proofs.Lists.{all-next, all-fails, all-end}
 use Rattle.certificate.proofs.ranges.steps_in_range.Statement.{statement}
 use Rattle.certificate.proofs.ranges.steps_in_range.Tie as tie
 
 abbrev row : List ℕ → ℕ → ℕ → Step
-row s start k = stepFrom s (start + 9 * k)
+row s start k = stepFrom s (start + stepBytes * k)
 
 abbrev Inv-loop : tie.InvT-loop
 Inv-loop bytes start count n m i₀ i = (i ≤ count) × (all (stepInRange n m) (tabulate (row bytes start) i) ≡ true)
@@ -25,21 +27,26 @@ loop-holds : tie.Need-loop-holds Inv-loop μ-loop
 unfolding all tabulate
 loop-holds c = (omega arith, refl)
 
-mul-step-in-range : tie.Need-mul-step-in-range Inv-loop μ-loop
-mul-step-in-range c = omega arith
+mul-step-from : tie.Need-mul-step-from Inv-loop μ-loop
+mul-step-from c = omega arith
 
-add-step-in-range : tie.Need-add-step-in-range Inv-loop μ-loop
-add-step-in-range c = omega arith
+add-step-from : tie.Need-add-step-from Inv-loop μ-loop
+add-step-from c = omega arith
+
+step-from-requires : tie.Need-step-from-requires Inv-loop μ-loop
+step-from-requires c κs = omega arith
 
 step-in-range-requires : tie.Need-step-in-range-requires Inv-loop μ-loop
-step-in-range-requires c κs = omega arith
+step-in-range-requires c κs = search needs
 
 returns : tie.Need-returns Inv-loop μ-loop
 returns c =
-    let t = c .before in
-    let l = t .before .before in
-    let s = l .before .before .args in
-    sym (all-fails (stepInRange (s .n) (s .m)) (row (s .bytes .now) (s .start)) (l .loop .i) (s .count) (omega arith) (sym (t .step-in-range .ensures) ∙ not-true _ (c .if1 .taken)))
+    let test = c .before in
+    let read = test .before in
+    let at-loop = read .before .before in
+    let given = at-loop .before .before .args in
+    sym (all-fails (stepInRange (given .n) (given .m)) (row (given .bytes .now) (given .start)) (at-loop .loop .i) (given .count) (omega arith)
+    (ap (stepInRange (given .n) (given .m)) (sym (read .step-from .ensures)) ∙ sym (test .step-in-range .ensures) ∙ not-true _ (c .if1 .taken)))
 
 add-i : tie.Need-add-i Inv-loop μ-loop
 add-i c = omega arith
@@ -49,15 +56,20 @@ loop-less c = omega arith
 
 loop-again : tie.Need-loop-again Inv-loop μ-loop
 loop-again c =
-    let t = c .before in
-    let l = t .before .before in
-    let s = l .before .before .args in
-    (omega arith, all-next (stepInRange (s .n) (s .m)) (row (s .bytes .now) (s .start)) (l .loop .i) (l .loop .inv .1) (sym (t .step-in-range .ensures) ∙ not-false _ (c .if1 .left)))
+    let test = c .before in
+    let read = test .before in
+    let at-loop = read .before .before in
+    let given = at-loop .before .before .args in (
+      omega arith,
+      all-next (stepInRange (given .n) (given .m)) (row (given .bytes .now) (given .start)) (at-loop .loop .i) (at-loop .loop .inv .1)
+          (ap (stepInRange (given .n) (given .m)) (sym (read .step-from .ensures)) ∙ sym (test .step-in-range .ensures) ∙ not-false _ (c .if1 .left)),
+    )
 
 returns-2 : tie.Need-returns-2 Inv-loop μ-loop
 returns-2 c =
-    let s = c .before .before .before .args in
-    all-end (stepInRange (s .n) (s .m)) (row (s .bytes .now) (s .start)) (c .before .loop .i) (s .count) (c .before .loop .inv .0) (omega arith) (c .before .loop .inv .1)
+    let at-loop = c .before in
+    let given = at-loop .before .before .args in
+    all-end (stepInRange (given .n) (given .m)) (row (given .bytes .now) (given .start)) (at-loop .loop .i) (given .count) (at-loop .loop .inv .0) (omega arith) (at-loop .loop .inv .1)
 
 pub steps-in-range-spec : {M : Type 1} → statement M
 steps-in-range-spec =
@@ -66,8 +78,9 @@ steps-in-range-spec =
     Inv-loop
     μ-loop
     loop-holds
-    mul-step-in-range
-    add-step-in-range
+    mul-step-from
+    add-step-from
+    step-from-requires
     step-in-range-requires
     returns
     add-i

@@ -7,14 +7,15 @@ use mathlib.Core.List.{List}
 use mathlib.Core.Path.{_≡_, refl, sym, ap, _∙_}
 use Prim.Native.Nat.{ℕ, _+_, _*_, _-_, _≤_}
 use Rattle.ipl.specs.Lists.{all, tabulate}
-use Rattle.certificate.specs.Layout.{worldFrom}
 use Rattle.ipl.specs.Range.{setInRange}
+use Rattle.certificate.specs.Format.{setBytes}
+use Rattle.certificate.specs.Layout.{worldFrom}
 use Rattle.ipl.proofs.Lists.{all-next, all-fails, all-end}
 use Rattle.certificate.proofs.ranges.worlds_in_range.Statement.{statement}
 use Rattle.certificate.proofs.ranges.worlds_in_range.Tie as tie
 
 abbrev row : List ℕ → ℕ → ℕ → ℕ
-row s start k = worldFrom s (start + 8 * k)
+row s start k = worldFrom s (start + setBytes * k)
 
 abbrev Inv-loop : tie.InvT-loop
 Inv-loop bytes start count n i₀ i = (i ≤ count) × (all (setInRange n) (tabulate (row bytes start) i) ≡ true)
@@ -40,10 +41,12 @@ set-in-range-requires c κs = search needs
 
 returns : tie.Need-returns Inv-loop μ-loop
 returns c =
-    let t = c .before in
-    let l = t .before .before .before in
-    let s = l .before .before .args in
-    sym (all-fails (setInRange (s .n)) (row (s .bytes .now) (s .start)) (l .loop .i) (s .count) (omega arith) (ap (setInRange (s .n)) (sym (t .before .load .ensures)) ∙ sym (t .set-in-range .ensures) ∙ not-true _ (c .if1 .taken)))
+    let test = c .before in
+    let read = test .before in
+    let at-loop = read .before .before in
+    let given = at-loop .before .before .args in
+    sym (all-fails (setInRange (given .n)) (row (given .bytes .now) (given .start)) (at-loop .loop .i) (given .count) (omega arith)
+    (ap (setInRange (given .n)) (sym (read .load .ensures)) ∙ sym (test .set-in-range .ensures) ∙ not-true _ (c .if1 .taken)))
 
 add-i : tie.Need-add-i Inv-loop μ-loop
 add-i c = omega arith
@@ -53,15 +56,20 @@ loop-less c = omega arith
 
 loop-again : tie.Need-loop-again Inv-loop μ-loop
 loop-again c =
-    let t = c .before in
-    let l = t .before .before .before in
-    let s = l .before .before .args in
-    (omega arith, all-next (setInRange (s .n)) (row (s .bytes .now) (s .start)) (l .loop .i) (l .loop .inv .1) (ap (setInRange (s .n)) (sym (t .before .load .ensures)) ∙ sym (t .set-in-range .ensures) ∙ not-false _ (c .if1 .left)))
+    let test = c .before in
+    let read = test .before in
+    let at-loop = read .before .before in
+    let given = at-loop .before .before .args in (
+      omega arith,
+      all-next (setInRange (given .n)) (row (given .bytes .now) (given .start)) (at-loop .loop .i) (at-loop .loop .inv .1)
+          (ap (setInRange (given .n)) (sym (read .load .ensures)) ∙ sym (test .set-in-range .ensures) ∙ not-false _ (c .if1 .left)),
+    )
 
 returns-2 : tie.Need-returns-2 Inv-loop μ-loop
 returns-2 c =
-    let s = c .before .before .before .args in
-    all-end (setInRange (s .n)) (row (s .bytes .now) (s .start)) (c .before .loop .i) (s .count) (c .before .loop .inv .0) (omega arith) (c .before .loop .inv .1)
+    let at-loop = c .before in
+    let given = at-loop .before .before .args in
+    all-end (setInRange (given .n)) (row (given .bytes .now) (given .start)) (at-loop .loop .i) (given .count) (at-loop .loop .inv .0) (omega arith) (at-loop .loop .inv .1)
 
 pub worlds-in-range-spec : {M : Type 1} → statement M
 worlds-in-range-spec =

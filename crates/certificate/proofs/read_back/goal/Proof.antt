@@ -1,6 +1,5 @@
 -- The goal byte, where the layout is kept.
 use borrow.Author.Needs.{needs}
-use native.Mathlib.Omega.{arith}
 use mathlib.Core.Path.{subst}
 use Rattle.certificate.specs.Checked.{LayoutRead}
 use Rattle.certificate.proofs.RowsBack.{unlaid-goal, laid-goal}
@@ -13,17 +12,8 @@ read-requires c κs = search needs
 enum-known-k : tie.Need-enum-known-k
 enum-known-k c = search needs
 
-mul-byte : tie.Need-mul-byte
-mul-byte c = omega (arith, subst (LayoutRead _) (c .before .before .k .given .1) (c .before .before .before .before .read .ensures) .size)
-
-add-byte : tie.Need-add-byte
-add-byte c = omega (arith, subst (LayoutRead _) (c .before .before .k .given .1) (c .before .before .before .before .read .ensures) .size)
-
-mul-byte-2 : tie.Need-mul-byte-2
-mul-byte-2 c = omega (arith, subst (LayoutRead _) (c .before .before .before .k .given .1) (c .before .before .before .before .before .read .ensures) .size)
-
-add-byte-2 : tie.Need-add-byte-2
-add-byte-2 c = omega (arith, subst (LayoutRead _) (c .before .before .before .k .given .1) (c .before .before .before .before .before .read .ensures) .size)
+goal-at-requires : tie.Need-goal-at-requires
+goal-at-requires c κs = search needs
 
 byte-requires : tie.Need-byte-requires
 byte-requires c κs = search needs
@@ -32,7 +22,9 @@ enum-told : tie.Need-enum-told
 enum-told c = search needs
 
 returns : tie.Need-returns
-returns c = laid-goal _ _ (subst (LayoutRead _) (c .before .before .before .before .k .given .1) (c .before .before .before .before .before .before .read .ensures)) _ (c .byte .ensures)
+returns c =
+    let found = c .before .before .before in
+    laid-goal _ _ (subst (LayoutRead _) (found .k .given .1) (found .before .before .read .ensures)) _ (c .before .goal-at .ensures) _ (c .byte .ensures)
 
 returns-2 : tie.Need-returns-2
 returns-2 c = unlaid-goal _ (subst (LayoutRead _) (c .enum-told .given .1) (c .before .before .read .ensures) .1)
@@ -43,10 +35,7 @@ goal-spec =
     (tie.spec
     read-requires
     enum-known-k
-    mul-byte
-    add-byte
-    mul-byte-2
-    add-byte-2
+    goal-at-requires
     byte-requires
     enum-told
     returns

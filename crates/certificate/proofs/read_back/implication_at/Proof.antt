@@ -1,45 +1,34 @@
 -- A row there, or past the end.
 use borrow.Author.Needs.{needs}
-use native.Mathlib.Omega.{arith}
 use mathlib.Core.Path.{_∙_}
-use Rattle.certificate.proofs.RowsBack.{implication-made, implication-past, implication-there, implication-fits}
+use Rattle.certificate.proofs.RowsBack.{implication-past, implication-there, implication-fits}
 use Rattle.certificate.proofs.read_back.implication_at.Statement.{statement}
 use Rattle.certificate.proofs.read_back.implication_at.Tie as tie
 
 kept-requires : tie.Need-kept-requires
 kept-requires c κs = search needs
 
-mul-at : tie.Need-mul-at
-mul-at c = omega (arith, implication-fits _ _ _ (c .before .before .before .kept .ensures) (c .before .if1 .taken))
+cast-if1 : tie.Need-cast-if1
+cast-if1 c = search needs
 
-add-at : tie.Need-add-at
-add-at c = omega (arith, implication-fits _ _ _ (c .before .before .before .kept .ensures) (c .before .if1 .taken))
+implications-at-requires : tie.Need-implications-at-requires
+implications-at-requires c κs = search needs
 
-mul-at-2 : tie.Need-mul-at-2
-mul-at-2 c = omega (arith, implication-fits _ _ _ (c .before .before .before .kept .ensures) (c .before .if1 .taken))
+mul-implication-from : tie.Need-mul-implication-from
+mul-implication-from c = search needs
 
-add-at-2 : tie.Need-add-at-2
-add-at-2 c = omega (arith, implication-fits _ _ _ (c .before .before .before .kept .ensures) (c .before .if1 .taken))
+add-implication-from : tie.Need-add-implication-from
+add-implication-from c = search needs
 
-byte-requires : tie.Need-byte-requires
-byte-requires c κs = search needs
-
-add-byte : tie.Need-add-byte
-add-byte c = omega (arith, implication-fits _ _ _ (c .before .before .before .before .kept .ensures) (c .before .before .if1 .taken))
-
-byte-requires-2 : tie.Need-byte-requires-2
-byte-requires-2 c κs = search needs
-
-add-byte-2 : tie.Need-add-byte-2
-add-byte-2 c = omega (arith, implication-fits _ _ _ (c .before .before .before .before .before .kept .ensures) (c .before .before .before .if1 .taken))
-
-byte-requires-3 : tie.Need-byte-requires-3
-byte-requires-3 c κs = search needs
+implication-from-requires : tie.Need-implication-from-requires
+implication-from-requires c κs =
+    let there = c .before in
+    implication-fits _ _ _ _ (c .implications-at .ensures) (there .before .before .kept .ensures) (there .if1 .taken)
 
 returns : tie.Need-returns
 returns c =
-    implication-made _ _ _ _ _ (c .before .before .byte .ensures) (c .before .byte2 .ensures) (c .byte3 .ensures)
-    ∙ implication-there _ _ _ (c .before .before .before .before .before .before .kept .ensures) (c .before .before .before .before .if1 .taken)
+    let there = c .before .before in
+    c .implication-from .ensures ∙ implication-there _ _ _ _ (c .before .implications-at .ensures) (there .before .before .kept .ensures) (there .if1 .taken)
 
 returns-2 : tie.Need-returns-2
 returns-2 c = implication-past _ _ _ (c .before .before .kept .ensures) (c .if1 .left)
@@ -49,14 +38,10 @@ implication-at-spec =
     tie.close
     (tie.spec
     kept-requires
-    mul-at
-    add-at
-    mul-at-2
-    add-at-2
-    byte-requires
-    add-byte
-    byte-requires-2
-    add-byte-2
-    byte-requires-3
+    cast-if1
+    implications-at-requires
+    mul-implication-from
+    add-implication-from
+    implication-from-requires
     returns
     returns-2)

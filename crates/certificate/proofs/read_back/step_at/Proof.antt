@@ -1,11 +1,9 @@
 -- A step there, past the end, or of no derivation.
 use borrow.Author.Needs.{needs}
-use native.Mathlib.Omega.{arith}
 use borrow.Author.Tests.{not-true, not-false}
-use mathlib.Core.Path.{ap, ap₂, _∙_}
+use mathlib.Core.Path.{ap, _∙_}
 use Rattle.atoms.proofs.Machine.{num-empty}
 use Rattle.ipl.specs.Search.{Step}
-use Rattle.certificate.specs.Layout.{stepFrom}
 use Rattle.certificate.proofs.RowsBack.{step-past, step-other, step-there, step-fits}
 use Rattle.certificate.proofs.read_back.step_at.Statement.{statement}
 use Rattle.certificate.proofs.read_back.step_at.Tie as tie
@@ -13,42 +11,35 @@ use Rattle.certificate.proofs.read_back.step_at.Tie as tie
 kept-requires : tie.Need-kept-requires
 kept-requires c κs = search needs
 
-mul-at : tie.Need-mul-at
-mul-at c = omega (arith, step-fits _ _ _ (c .before .before .before .before .before .kept .ensures) (not-true _ (c .before .before .before .if1 .taken)) (c .before .if2 .taken))
+cast-if2 : tie.Need-cast-if2
+cast-if2 c = search needs
 
-add-at : tie.Need-add-at
-add-at c = omega (arith, step-fits _ _ _ (c .before .before .before .before .before .kept .ensures) (not-true _ (c .before .before .before .if1 .taken)) (c .before .if2 .taken))
+claim-at-requires : tie.Need-claim-at-requires
+claim-at-requires c κs = search needs
 
-mul-at-2 : tie.Need-mul-at-2
-mul-at-2 c = omega (arith, step-fits _ _ _ (c .before .before .before .before .before .before .kept .ensures) (not-true _ (c .before .before .before .before .if1 .taken)) (c .before .before .if2 .taken))
+mul-step-from : tie.Need-mul-step-from
+mul-step-from c = search needs
 
-add-at-2 : tie.Need-add-at-2
-add-at-2 c = omega (arith, step-fits _ _ _ (c .before .before .before .before .before .before .kept .ensures) (not-true _ (c .before .before .before .before .if1 .taken)) (c .before .before .if2 .taken))
+add-step-from : tie.Need-add-step-from
+add-step-from c = search needs
 
-add-at-3 : tie.Need-add-at-3
-add-at-3 c = omega (arith, step-fits _ _ _ (c .before .before .before .before .before .before .kept .ensures) (not-true _ (c .before .before .before .before .if1 .taken)) (c .before .before .if2 .taken))
-
-mul-at-3 : tie.Need-mul-at-3
-mul-at-3 c = omega (arith, step-fits _ _ _ (c .before .before .before .before .before .before .kept .ensures) (not-true _ (c .before .before .before .before .if1 .taken)) (c .before .before .if2 .taken))
-
-add-at-4 : tie.Need-add-at-4
-add-at-4 c = omega (arith, step-fits _ _ _ (c .before .before .before .before .before .before .kept .ensures) (not-true _ (c .before .before .before .before .if1 .taken)) (c .before .before .if2 .taken))
-
-byte-requires : tie.Need-byte-requires
-byte-requires c κs = search needs
-
-add-load : tie.Need-add-load
-add-load c = omega (arith, step-fits _ _ _ (c .before .before .before .before .before .before .before .kept .ensures) (not-true _ (c .before .before .before .before .before .if1 .taken)) (c .before .before .before .if2 .taken))
-
-load-requires : tie.Need-load-requires
-load-requires c κs = search needs
+step-from-requires : tie.Need-step-from-requires
+step-from-requires c κs =
+    let there = c .before in
+    let derives = there .before .before in
+    step-fits _ _ _ _ (c .claim-at .ensures) (derives .before .before .kept .ensures) (not-true _ (derives .if1 .taken)) (there .if2 .taken)
 
 returns : tie.Need-returns
-unfolding stepFrom
-returns c = ap₂ {C = Step} (λ x y. record { number = x; assumed = y }) (c .before .byte .ensures) (c .load .ensures) ∙ step-there _ _ _ (c .before .before .before .before .before .before .before .before .kept .ensures) (not-true _ (c .before .before .before .before .before .before .if1 .taken)) (c .before .before .before .before .if2 .taken)
+returns c =
+    let there = c .before .before in
+    let derives = there .before .before in
+    c .step-from .ensures
+    ∙ step-there _ _ _ _ (c .before .claim-at .ensures) (derives .before .before .kept .ensures) (not-true _ (derives .if1 .taken)) (there .if2 .taken)
 
 returns-2 : tie.Need-returns-2
-returns-2 c = ap {B = Step} (λ y. record { number = 0; assumed = y }) num-empty ∙ step-past _ _ _ (c .before .before .before .before .kept .ensures) (not-true _ (c .before .before .if1 .taken)) (c .if2 .left)
+returns-2 c =
+    let derives = c .before .before in
+    ap {B = Step} (λ y. record { number = 0; assumed = y }) num-empty ∙ step-past _ _ _ (derives .before .before .kept .ensures) (not-true _ (derives .if1 .taken)) (c .if2 .left)
 
 returns-3 : tie.Need-returns-3
 returns-3 c = ap {B = Step} (λ y. record { number = 0; assumed = y }) num-empty ∙ step-other _ _ _ (c .before .before .kept .ensures) (not-false _ (c .if1 .left))
@@ -58,16 +49,11 @@ step-at-spec =
     tie.close
     (tie.spec
     kept-requires
-    mul-at
-    add-at
-    mul-at-2
-    add-at-2
-    add-at-3
-    mul-at-3
-    add-at-4
-    byte-requires
-    add-load
-    load-requires
+    cast-if2
+    claim-at-requires
+    mul-step-from
+    add-step-from
+    step-from-requires
     returns
     returns-2
     returns-3)

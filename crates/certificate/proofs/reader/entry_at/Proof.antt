@@ -1,27 +1,40 @@
--- Nine bytes from the place on, or too few.
+-- The bytes of an entry, or too few.
 use borrow.Author.Needs.{needs}
+use mathlib.Core.Bool.{true}
+use mathlib.Core.Path.{_≡_, sym, _∙_}
+use Prim.Native.Nat.{_+_, _≤_}
 use native.Mathlib.Omega.{arith}
+use lib.ListN.{length}
+use borrow.Author.Tests.{leb-true, not-true, not-false}
+use Rattle.certificate.specs.Format.{entryBytes}
+use Rattle.certificate.specs.Reading.{standsAt}
 use Rattle.certificate.proofs.OneEntry.{entry-past, entry-there}
 use Rattle.certificate.proofs.reader.entry_at.Statement.{statement}
 use Rattle.certificate.proofs.reader.entry_at.Tie as tie
 
+-- Where the code goes on, an entry stands.
+stands : (c : tie.Else1) → standsAt (c .before .before .before .args .bytes .now) (c .before .before .before .args .at) ≡ true
+stands c = sym (c .before .stands-at .ensures) ∙ not-false _ (c .if1 .left)
+
+room : (c : tie.Else1) → c .before .before .before .args .at + entryBytes ≤ length (c .before .before .before .args .bytes .now)
+room c =
+    let given = c .before .before .before .args in
+    leb-true (given .at + entryBytes) (length (given .bytes .now)) (stands c)
+
+stands-at-requires : tie.Need-stands-at-requires
+stands-at-requires c κs = search needs
+
 returns : tie.Need-returns
-returns c = entry-past _ _ (omega arith)
-
-sub-if2 : tie.Need-sub-if2
-sub-if2 c = search needs
-
-returns-2 : tie.Need-returns-2
-returns-2 c = entry-past _ _ (omega arith)
+returns c = entry-past _ _ (sym (c .before .stands-at .ensures) ∙ not-true _ (c .if1 .taken))
 
 add-number : tie.Need-add-number
-add-number c = search needs
+add-number c = omega (arith, room c)
 
 number-requires : tie.Need-number-requires
 number-requires c κs = search needs
 
 add-number-2 : tie.Need-add-number-2
-add-number-2 c = search needs
+add-number-2 c = omega (arith, room (c .before))
 
 number-requires-2 : tie.Need-number-requires-2
 number-requires-2 c κs = search needs
@@ -29,19 +42,18 @@ number-requires-2 c κs = search needs
 byte-requires : tie.Need-byte-requires
 byte-requires c κs = search needs
 
-returns-3 : tie.Need-returns-3
-returns-3 c = entry-there _ _ (omega arith) _ _ _ (c .byte .ensures) (c .before .before .number .ensures .is) (c .before .number2 .ensures .is)
+returns-2 : tie.Need-returns-2
+returns-2 c = entry-there _ _ (stands (c .before .before .before)) _ _ _ (c .byte .ensures) (c .before .before .number .ensures) (c .before .number2 .ensures)
 
 pub entry-at-spec : {M : Type 1} → statement M
 entry-at-spec =
     tie.close
     (tie.spec
+    stands-at-requires
     returns
-    sub-if2
-    returns-2
     add-number
     number-requires
     add-number-2
     number-requires-2
     byte-requires
-    returns-3)
+    returns-2)

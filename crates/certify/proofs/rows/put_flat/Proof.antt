@@ -17,7 +17,10 @@ same-length : tie.Need-same-length
 same-length c = search needs
 
 returns : tie.Need-returns
-returns c = flat-put _ _ _ _ _ _ (c .before .before .before .before .before .before .before .before .before .pre) (c .before .before .before .before .before .before .store .ensures) (c .before .before .store2 .ensures)
+returns c =
+    let last = c .before .before in
+    let first = last .before .before .before .before in
+    flat-put _ _ _ _ _ _ (first .before .before .before .pre) (first .store .ensures) (last .store2 .ensures)
 
 pub put-flat-spec : {M : Type 1} → statement M
 put-flat-spec = tie.close (tie.spec store-requires add-store store-requires-2 same-length returns)

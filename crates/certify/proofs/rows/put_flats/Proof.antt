@@ -8,7 +8,7 @@ use Rattle.atoms.specs.Bytes.{putAt}
 use Rattle.ipl.specs.Lists.{tabulate}
 use Rattle.ipl.specs.Clause.{Flat}
 use Rattle.sat.specs.Table.{clauseAt, clauses}
-use Rattle.certificate.specs.Format.{each, flatRow}
+use Rattle.certificate.specs.Format.{flatBytes, each, flatRow}
 use Rattle.certificate.proofs.Encoding.{length-flat}
 use Rattle.certify.proofs.Bodies.{rows-none, rows-next, rows-end}
 use Rattle.certify.proofs.rows.put_flats.Statement.{statement}
@@ -21,7 +21,7 @@ abbrev μ-loop : tie.MeasureT-loop
 μ-loop buffer₀ at t count i₀ buffer i = count - i
 
 loop-holds : tie.Need-loop-holds Inv-loop μ-loop
-loop-holds c = (omega arith, refl, rows-none flatRow 16 length-flat _ _ _)
+loop-holds c = (omega arith, refl, rows-none flatRow flatBytes length-flat _ _ _)
 
 mul-put-flat : tie.Need-mul-put-flat Inv-loop μ-loop
 mul-put-flat c = search needs
@@ -46,9 +46,17 @@ loop-less c = search needs
 
 loop-again : tie.Need-loop-again Inv-loop μ-loop
 loop-again c =
-    let s = c .before .before .before .before .before .before .before .before .before .before .before .before .before .before .before .args in
-    let l = c .before .before .before .before .before .before .before .before .before .before .before .before .before .loop in
-    (omega arith, omega arith, rows-next flatRow 16 length-flat (clauseAt (s .t3 .left) (s .t3 .right)) _ _ _ _ (l .i) (s .t3 .count) _ (omega arith) (c .before .before .before .before .before .before .before .before .before .before .before .before .before .before .before .pre) (l .inv .2) (c .before .before .put-flat .ensures) (ap₂ {C = Flat} (λ (x y : ℕ). record { left = x; right = y }) (c .before .before .before .before .before .before .before .row .ensures) (c .before .before .before .row2 .ensures)))
+    let row-put = c .before .before in
+    let right-read = row-put .before in
+    let left-read = right-read .before .before .before .before in
+    let at-loop = row-put .before .before .before .before .before .before .before .before .before .before .before in
+    let t = at-loop .before .before .args .t3 in
+    let i = at-loop .loop .i in (
+      omega arith,
+      omega arith,
+      rows-next flatRow flatBytes length-flat (clauseAt (t .left) (t .right)) _ _ _ _ i (t .count) _ (omega arith) (at-loop .before .before .pre) (at-loop .loop .inv .2)
+          (row-put .put-flat .ensures) (ap₂ {C = Flat} (λ (x y : ℕ). record { left = x; right = y }) (left-read .row .ensures) (right-read .row2 .ensures)),
+    )
 
 same-length : tie.Need-same-length Inv-loop μ-loop
 same-length c = c .before .loop .inv .1
@@ -56,8 +64,9 @@ same-length c = c .before .loop .inv .1
 returns : tie.Need-returns Inv-loop μ-loop
 unfolding clauses
 returns c =
-    let s = c .before .before .before .args in
-    rows-end flatRow 16 length-flat (clauseAt (s .t3 .left) (s .t3 .right)) _ _ _ (c .before .loop .i) (s .t3 .count) (omega arith) (omega arith) (c .before .loop .inv .2)
+    let t = c .before .before .before .args .t3 in
+    let i = c .before .loop .i in
+    rows-end flatRow flatBytes length-flat (clauseAt (t .left) (t .right)) _ _ _ i (t .count) (omega arith) (omega arith) (c .before .loop .inv .2)
 
 pub put-flats-spec : {M : Type 1} → statement M
 put-flats-spec =

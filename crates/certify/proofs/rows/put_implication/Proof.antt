@@ -23,7 +23,11 @@ same-length : tie.Need-same-length
 same-length c = search needs
 
 returns : tie.Need-returns
-returns c = implication-put _ _ _ _ _ _ _ _ (c .before .before .before .before .before .before .before .before .before .before .before .before .before .pre) (c .before .before .before .before .before .before .before .before .before .before .put-byte .ensures) (c .before .before .before .before .before .before .put-byte2 .ensures) (c .before .before .put-byte3 .ensures)
+returns c =
+    let third = c .before .before in
+    let second = third .before .before .before .before in
+    let first = second .before .before .before .before in
+    implication-put _ _ _ _ _ _ _ _ (first .before .before .before .pre) (first .put-byte .ensures) (second .put-byte2 .ensures) (third .put-byte3 .ensures)
 
 pub put-implication-spec : {M : Type 1} → statement M
 put-implication-spec =

@@ -7,7 +7,7 @@ use lib.ListN.{length}
 use Rattle.atoms.specs.Bytes.{putAt}
 use Rattle.ipl.specs.Lists.{tabulate}
 use Rattle.prover.specs.State as S
-use Rattle.certificate.specs.Format.{each, implicationRow}
+use Rattle.certificate.specs.Format.{implicationBytes, each, implicationRow}
 use Rattle.certificate.proofs.Encoding.{length-implication}
 use Rattle.certify.proofs.Bodies.{rows-none, rows-next, rows-end}
 use Rattle.certify.proofs.rows.put_implications.Statement.{statement}
@@ -20,7 +20,7 @@ abbrev μ-loop : tie.MeasureT-loop
 μ-loop buffer₀ at t count i₀ buffer i = count - i
 
 loop-holds : tie.Need-loop-holds Inv-loop μ-loop
-loop-holds c = (omega arith, refl, rows-none implicationRow 3 length-implication _ _ _)
+loop-holds c = (omega arith, refl, rows-none implicationRow implicationBytes length-implication _ _ _)
 
 mul-put-implication : tie.Need-mul-put-implication Inv-loop μ-loop
 mul-put-implication c = search needs
@@ -48,17 +48,24 @@ loop-less c = search needs
 
 loop-again : tie.Need-loop-again Inv-loop μ-loop
 loop-again c =
-    let s = c .before .before .before .before .before .before .before .before .before .before .args in
-    let l = c .before .before .before .before .before .before .before .before .loop in
-    (omega arith, omega arith, rows-next implicationRow 3 length-implication (S.implicationRow (s .t3)) _ _ _ _ (l .i) (s .t3 .count) _ (omega arith) (c .before .before .before .before .before .before .before .before .before .before .pre .0) (l .inv .2) (c .before .before .put-implication .ensures) (refl))
+    let row-put = c .before .before in
+    let at-loop = row-put .before .before .before .before .before .before in
+    let t = at-loop .before .before .args .t3 in
+    let i = at-loop .loop .i in (
+      omega arith,
+      omega arith,
+      rows-next implicationRow implicationBytes length-implication (S.implicationRow t) _ _ _ _ i (t .count) _ (omega arith) (at-loop .before .before .pre .0) (at-loop .loop .inv .2)
+          (row-put .put-implication .ensures) refl,
+    )
 
 same-length : tie.Need-same-length Inv-loop μ-loop
 same-length c = c .before .loop .inv .1
 
 returns : tie.Need-returns Inv-loop μ-loop
 returns c =
-    let s = c .before .before .before .args in
-    rows-end implicationRow 3 length-implication (S.implicationRow (s .t3)) _ _ _ (c .before .loop .i) (s .t3 .count) (omega arith) (omega arith) (c .before .loop .inv .2)
+    let t = c .before .before .before .args .t3 in
+    let i = c .before .loop .i in
+    rows-end implicationRow implicationBytes length-implication (S.implicationRow t) _ _ _ i (t .count) (omega arith) (omega arith) (c .before .loop .inv .2)
 
 pub put-implications-spec : {M : Type 1} → statement M
 put-implications-spec =

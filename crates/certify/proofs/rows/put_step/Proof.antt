@@ -17,7 +17,10 @@ same-length : tie.Need-same-length
 same-length c = search needs
 
 returns : tie.Need-returns
-returns c = step-put _ _ _ _ _ _ (c .before .before .before .before .before .before .before .before .before .pre) (c .before .before .before .before .before .before .put-byte .ensures) (c .before .before .store .ensures)
+returns c =
+    let last = c .before .before in
+    let first = last .before .before .before .before in
+    step-put _ _ _ _ _ _ (first .before .before .before .pre) (first .put-byte .ensures) (last .store .ensures)
 
 pub put-step-spec : {M : Type 1} → statement M
 put-step-spec = tie.close (tie.spec put-byte-requires add-store store-requires same-length returns)

@@ -8,7 +8,7 @@ use Rattle.atoms.specs.Bytes.{putAt}
 use Rattle.ipl.specs.Lists.{tabulate}
 use Rattle.ipl.specs.Search.{Step}
 use Rattle.prover.specs.State as S
-use Rattle.certificate.specs.Format.{each, stepRow}
+use Rattle.certificate.specs.Format.{stepBytes, each, stepRow}
 use Rattle.certificate.proofs.Encoding.{length-step}
 use Rattle.certify.proofs.Bodies.{rows-none, rows-next, rows-end}
 use Rattle.certify.proofs.rows.put_steps.Statement.{statement}
@@ -21,7 +21,7 @@ abbrev μ-loop : tie.MeasureT-loop
 μ-loop buffer₀ at t count i₀ buffer i = count - i
 
 loop-holds : tie.Need-loop-holds Inv-loop μ-loop
-loop-holds c = (omega arith, refl, rows-none stepRow 9 length-step _ _ _)
+loop-holds c = (omega arith, refl, rows-none stepRow stepBytes length-step _ _ _)
 
 mul-put-step : tie.Need-mul-put-step Inv-loop μ-loop
 mul-put-step c = search needs
@@ -46,17 +46,24 @@ loop-less c = search needs
 
 loop-again : tie.Need-loop-again Inv-loop μ-loop
 loop-again c =
-    let s = c .before .before .before .before .before .before .before .before .before .before .before .before .args in
-    let l = c .before .before .before .before .before .before .before .before .before .before .loop in
-    (omega arith, omega arith, rows-next stepRow 9 length-step (S.stepRow (s .t3)) _ _ _ _ (l .i) (s .t3 .count) _ (omega arith) (c .before .before .before .before .before .before .before .before .before .before .before .before .pre .0) (l .inv .2) (c .before .before .put-step .ensures) (ap {B = Step} (λ (x : ℕ). record { number = S.byteAt (s .t3 .numbers) (l .i); assumed = x }) (c .before .before .before .row .ensures)))
+    let row-put = c .before .before in
+    let at-loop = row-put .before .before .before .before .before .before .before .before in
+    let t = at-loop .before .before .args .t3 in
+    let i = at-loop .loop .i in (
+      omega arith,
+      omega arith,
+      rows-next stepRow stepBytes length-step (S.stepRow t) _ _ _ _ i (t .count) _ (omega arith) (at-loop .before .before .pre .0) (at-loop .loop .inv .2)
+          (row-put .put-step .ensures) (ap {B = Step} (λ (x : ℕ). record { number = S.byteAt (t .numbers) i; assumed = x }) (row-put .before .row .ensures)),
+    )
 
 same-length : tie.Need-same-length Inv-loop μ-loop
 same-length c = c .before .loop .inv .1
 
 returns : tie.Need-returns Inv-loop μ-loop
 returns c =
-    let s = c .before .before .before .args in
-    rows-end stepRow 9 length-step (S.stepRow (s .t3)) _ _ _ (c .before .loop .i) (s .t3 .count) (omega arith) (omega arith) (c .before .loop .inv .2)
+    let t = c .before .before .before .args .t3 in
+    let i = c .before .loop .i in
+    rows-end stepRow stepBytes length-step (S.stepRow t) _ _ _ i (t .count) (omega arith) (omega arith) (c .before .loop .inv .2)
 
 pub put-steps-spec : {M : Type 1} → statement M
 put-steps-spec =

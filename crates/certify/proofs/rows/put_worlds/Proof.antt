@@ -7,7 +7,7 @@ use lib.ListN.{length}
 use Rattle.atoms.specs.Bytes.{putAt}
 use Rattle.ipl.specs.Lists.{tabulate}
 use Rattle.atoms.specs.Words.{rowOf}
-use Rattle.certificate.specs.Format.{each, worldRow}
+use Rattle.certificate.specs.Format.{setBytes, each, worldRow}
 use Rattle.certificate.proofs.Encoding.{length-world}
 use Rattle.certify.proofs.Bodies.{rows-none, rows-next, rows-end}
 use Rattle.certify.proofs.rows.put_worlds.Statement.{statement}
@@ -20,7 +20,7 @@ abbrev μ-loop : tie.MeasureT-loop
 μ-loop buffer₀ at t count i₀ buffer i = count - i
 
 loop-holds : tie.Need-loop-holds Inv-loop μ-loop
-loop-holds c = (omega arith, refl, rows-none worldRow 8 length-world _ _ _)
+loop-holds c = (omega arith, refl, rows-none worldRow setBytes length-world _ _ _)
 
 mul-store : tie.Need-mul-store Inv-loop μ-loop
 mul-store c = search needs
@@ -43,17 +43,24 @@ loop-less c = search needs
 loop-again : tie.Need-loop-again Inv-loop μ-loop
 unfolding worldRow
 loop-again c =
-    let s = c .before .before .before .before .before .before .before .before .before .before .before .args in
-    let l = c .before .before .before .before .before .before .before .before .before .loop in
-    (omega arith, omega arith, rows-next worldRow 8 length-world (rowOf (s .t3 .sets)) _ _ _ _ (l .i) (s .t3 .count) _ (omega arith) (c .before .before .before .before .before .before .before .before .before .before .before .pre) (l .inv .2) (c .before .before .store .ensures) (c .before .before .before .row .ensures))
+    let row-put = c .before .before in
+    let at-loop = row-put .before .before .before .before .before .before .before in
+    let t = at-loop .before .before .args .t3 in
+    let i = at-loop .loop .i in (
+      omega arith,
+      omega arith,
+      rows-next worldRow setBytes length-world (rowOf (t .sets)) _ _ _ _ i (t .count) _ (omega arith) (at-loop .before .before .pre) (at-loop .loop .inv .2)
+          (row-put .store .ensures) (row-put .before .row .ensures),
+    )
 
 same-length : tie.Need-same-length Inv-loop μ-loop
 same-length c = c .before .loop .inv .1
 
 returns : tie.Need-returns Inv-loop μ-loop
 returns c =
-    let s = c .before .before .before .args in
-    rows-end worldRow 8 length-world (rowOf (s .t3 .sets)) _ _ _ (c .before .loop .i) (s .t3 .count) (omega arith) (omega arith) (c .before .loop .inv .2)
+    let t = c .before .before .before .args .t3 in
+    let i = c .before .loop .i in
+    rows-end worldRow setBytes length-world (rowOf (t .sets)) _ _ _ i (t .count) (omega arith) (omega arith) (c .before .loop .inv .2)
 
 pub put-worlds-spec : {M : Type 1} → statement M
 put-worlds-spec =

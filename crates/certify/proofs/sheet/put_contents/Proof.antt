@@ -1,36 +1,23 @@
 -- Byte 0 and the four entries, one after the other.
 use borrow.Author.Needs.{needs}
-use mathlib.Core.Logic.{⊎-elim}
-use mathlib.Core.Path.{_≡_, ap, sym, _∙_}
-use Rattle.certificate.specs.Format.{claimKind}
 use Rattle.certify.proofs.Parts.{contents-put}
 use Rattle.certify.proofs.sheet.put_contents.Statement.{statement}
 use Rattle.certify.proofs.sheet.put_contents.Tie as tie
 
--- The kind of the claim.
-kind-is : (c : tie.Joined1) → c .if1 .kind ≡ claimKind (c .before .before .before .args .k .refuting)
-kind-is c = ⊎-elim (λ w. w .1 ∙ ap claimKind (sym (w .0 .taken))) (λ w. w .1 ∙ ap claimKind (sym (w .0 .left))) (c .if1 .came)
+implications-at-requires : tie.Need-implications-at-requires
+implications-at-requires c κs = search needs
 
-goal-start-requires : tie.Need-goal-start-requires
-goal-start-requires c κs = search needs
+goal-at-requires : tie.Need-goal-at-requires
+goal-at-requires c κs = search needs
+
+claim-at-requires : tie.Need-claim-at-requires
+claim-at-requires c κs = search needs
 
 put-byte-requires : tie.Need-put-byte-requires
 put-byte-requires c κs = search needs
 
-mul-put-entry : tie.Need-mul-put-entry
-mul-put-entry c = search needs
-
-add-put-entry : tie.Need-add-put-entry
-add-put-entry c = search needs
-
 put-entry-requires : tie.Need-put-entry-requires
 put-entry-requires c κs = search needs
-
-implication-start-requires : tie.Need-implication-start-requires
-implication-start-requires c κs = search needs
-
-mul-put-entry-2 : tie.Need-mul-put-entry-2
-mul-put-entry-2 c = search needs
 
 put-entry-requires-2 : tie.Need-put-entry-requires-2
 put-entry-requires-2 c κs = search needs
@@ -38,11 +25,11 @@ put-entry-requires-2 c κs = search needs
 put-entry-requires-3 : tie.Need-put-entry-requires-3
 put-entry-requires-3 c κs = search needs
 
-add-put-entry-2 : tie.Need-add-put-entry-2
-add-put-entry-2 c = search needs
+claim-kind-requires : tie.Need-claim-kind-requires
+claim-kind-requires c κs = search needs
 
-claim-size-requires : tie.Need-claim-size-requires
-claim-size-requires c κs = search needs
+length-requires : tie.Need-length-requires
+length-requires c κs = search needs
 
 put-entry-requires-4 : tie.Need-put-entry-requires-4
 put-entry-requires-4 c κs = search needs
@@ -52,24 +39,31 @@ same-length c = search needs
 
 returns : tie.Need-returns
 returns c =
-    contents-put _ _ _ _ _ _ _ _ _ _ _ _ _ _ (c .before .before .before .before .before .before .before .before .before .before .before .before .before .before .before .before .before .before .before .before .before .before .before .before .before .before .before .pre .1) (c .before .before .before .before .before .before .before .before .before .before .before .before .before .implication-start .ensures) (c .before .before .before .before .before .before .before .before .before .before .before .before .before .before .before .before .before .before .before .before .before .before .before .before .before .goal-start .ensures) (kind-is (c .before .before .before .before .before .before .before .before .before .before .before .before .before .before .before .before .before .before .before .before .before .before .before .before)) (c .before .before .before .claim-size .ensures)
-    (c .before .before .before .before .before .before .before .before .before .before .before .before .before .before .before .before .before .before .before .before .before .before .put-byte .ensures) (c .before .before .before .before .before .before .before .before .before .before .before .before .before .before .before .before .before .put-entry .ensures) (c .before .before .before .before .before .before .before .before .before .before .before .put-entry2 .ensures) (c .before .before .before .before .before .before .before .put-entry3 .ensures) (c .before .before .put-entry4 .ensures)
+    let last = c .before .before in
+    let third = last .before .before .before .before .before .before in
+    let second = third .before .before .before .before in
+    let first = second .before .before .before .before in
+    let number = first .before .before .before .before in
+    let placed = number .before .before in
+    let given = placed .before .before .before .before in
+    let k = given .args .k in
+    contents-put (k .flats) (k .implications) (k .refuting) (k .rows) _ _ _ _ _ (placed .before .before .implications-at .ensures) (placed .before .goal-at .ensures)
+    (placed .claim-at .ensures) (last .before .length .ensures) (last .before .before .claim-kind .ensures) _ _ _ _ _ _ (given .pre) (number .put-byte .ensures)
+    (first .put-entry .ensures) (second .put-entry2 .ensures) (third .put-entry3 .ensures) (last .put-entry4 .ensures)
 
 pub put-contents-spec : {M : Type 1} → statement M
 put-contents-spec =
     tie.close
     (tie.spec
-    goal-start-requires
+    implications-at-requires
+    goal-at-requires
+    claim-at-requires
     put-byte-requires
-    mul-put-entry
-    add-put-entry
     put-entry-requires
-    implication-start-requires
-    mul-put-entry-2
     put-entry-requires-2
     put-entry-requires-3
-    add-put-entry-2
-    claim-size-requires
+    claim-kind-requires
+    length-requires
     put-entry-requires-4
     same-length
     returns)

@@ -15,7 +15,9 @@ set-row-requires-2 : tie.Need-set-row-requires-2
 set-row-requires-2 c κs = search needs
 
 add-result : tie.Need-add-result
-add-result c = omega (arith, c .before .before .before .before .before .before .before .before .before .before .before .pre .few)
+add-result c =
+    let asked = c .before .before .before .before .before .before .before .before .before .before .before .pre in
+    omega (arith, asked .few)
 
 same-length : tie.Need-same-length
 same-length c = search needs
@@ -24,7 +26,11 @@ same-length-2 : tie.Need-same-length-2
 same-length-2 c = search needs
 
 returns-2 : tie.Need-returns-2
-returns-2 c = rw (c .before .before .before .before .before .before .before .before .if1 .left) (put-one _ _ _ _ _ _ _ (c .before .before .before .before .before .before .before .before .before .before .before .pre) (c .before .before .before .before .before .before .set-row .ensures) (c .before .before .set-row2 .ensures))
+returns-2 c =
+    let first-row = c .before .before .before .before .before .before in
+    let kept = first-row .before .before in
+    rw (kept .if1 .left)
+    (put-one _ _ _ _ _ _ _ (kept .before .before .before .pre) (first-row .set-row .ensures) (c .before .before .set-row2 .ensures))
 
 pub put-spec : {M : Type 1} → statement M
 put-spec =

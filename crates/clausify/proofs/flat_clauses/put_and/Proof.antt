@@ -19,13 +19,20 @@ put-requires : tie.Need-put-requires
 put-requires c κs = search needs
 
 put-requires-2 : tie.Need-put-requires-2
-put-requires-2 c κs = fits-second _ _ _ _ _ _ (c .before .before .before .before .before .before .before .before .before .before .before .before .before .before .pre) false _ _ _ _ (c .before .before .before .before .before .before .put .ensures)
+put-requires-2 c κs =
+    let first = c .before .before .before .before .before .before in
+    let asked = first .before .before .before .before .before .before .before .before .pre in
+    fits-second _ _ _ _ _ _ asked false _ _ _ _ (first .put .ensures)
 
 join-requires : tie.Need-join-requires
 join-requires c κs = search needs
 
 put-requires-3 : tie.Need-put-requires-3
-put-requires-3 c κs = fits-third _ _ _ _ _ _ (c .before .before .before .before .before .before .before .before .before .before .before .before .before .before .before .before .before .before .before .before .before .before .pre) false false _ _ _ _ _ _ _ _ (c .before .before .before .before .before .before .before .before .before .before .before .before .before .before .put .ensures) (c .before .before .before .before .before .before .before .put2 .ensures)
+put-requires-3 c κs =
+    let second = c .before .before .before .before .before .before .before in
+    let first = second .before .before .before .before .before .before .before in
+    let asked = first .before .before .before .before .before .before .before .before .pre in
+    fits-third _ _ _ _ _ _ asked false false _ _ _ _ _ _ _ _ (first .put .ensures) (second .put2 .ensures)
 
 same-length : tie.Need-same-length
 same-length c = search needs
@@ -34,7 +41,14 @@ same-length-2 : tie.Need-same-length-2
 same-length-2 c = search needs
 
 returns : tie.Need-returns
-returns c = and-put _ _ _ _ _ _ (c .before .before .before .before .before .before .before .before .before .before .before .before .before .before .before .before .before .before .before .before .before .before .before .before .before .before .before .pre) _ _ _ _ (c .before .before .before .before .before .before .before .before .before .before .before .before .before .before .before .before .before .before .before .before .before .before .before .before .single .ensures) (c .before .before .before .before .before .before .before .before .before .before .before .before .before .before .before .before .before .before .before .before .before .before .before .single2 .ensures) (c .before .before .before .before .before .before .before .before .before .before .before .before .before .before .before .before .before .before .before .before .before .before .single3 .ensures) _ _ _ _ _ _ _ _ _ (c .before .before .before .before .before .join .ensures) _ refl (c .before .before .before .before .before .before .before .before .before .before .before .before .before .before .before .before .before .before .before .put .ensures) (c .before .before .before .before .before .before .before .before .before .before .before .before .put2 .ensures) (c .before .before .before .before .put3 .ensures)
+returns c =
+    let third = c .before .before .before .before in
+    let second = third .before .before .before .before .before .before .before .before in
+    let first = second .before .before .before .before .before .before .before in
+    let sets = first .before .before .before in
+    let asked = sets .before .before .before .before .before .pre in
+    and-put _ _ _ _ _ _ asked _ _ _ _ (sets .before .before .single .ensures) (sets .before .single2 .ensures) (sets .single3 .ensures)
+    _ _ _ _ _ _ _ _ _ (third .before .join .ensures) _ refl (first .put .ensures) (second .put2 .ensures) (third .put3 .ensures)
 
 pub put-and-spec : {M : Type 1} → statement M
 put-and-spec =

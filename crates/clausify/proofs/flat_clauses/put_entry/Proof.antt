@@ -1,6 +1,7 @@
 -- The clauses of each kind of part.
 use mathlib.Core.Path.{_≡_}
 use lib.ListN.{length}
+use Rattle.syntax.specs.Parts.{room}
 use Rattle.clausify.specs.Additions.{flatsBy}
 use Rattle.clausify.proofs.Written.{put-none, letter-calls, falsum-calls, compound-parts, compound-calls, compound-room, put-calls}
 use borrow.Author.Needs.{needs}
@@ -8,7 +9,7 @@ use native.Mathlib.Omega.{arith}
 use Rattle.clausify.proofs.flat_clauses.put_entry.Statement.{statement}
 use Rattle.clausify.proofs.flat_clauses.put_entry.Tie as tie
 
-atoms-size : (c : tie.Start) → length (c .args .t6 .atoms) ≡ 65
+atoms-size : (c : tie.Start) → length (c .args .t6 .atoms) ≡ room
 atoms-size c = search needs
 
 enum-told : tie.Need-enum-told
@@ -24,16 +25,24 @@ cast-put-part : tie.Need-cast-put-part
 cast-put-part c = search needs
 
 element-copy-out-put-part : tie.Need-element-copy-out-put-part
-element-copy-out-put-part c = omega (arith, compound-parts _ 0 _ _ _ _ (c .before .before .before .part .given .1) (c .before .before .before .before .before .before .before .pre .parts) .0 .0, atoms-size (c .before .before .before .before .before .before .before))
+element-copy-out-put-part c =
+    let matched = c .before .before .before in
+    let start = matched .before .before .before .before in
+    omega (arith, compound-parts _ _ _ _ _ _ (matched .part .given .1) (start .pre .parts) .1 .0, atoms-size start)
 
 cast-put-part-2 : tie.Need-cast-put-part-2
 cast-put-part-2 c = search needs
 
 element-copy-out-put-part-2 : tie.Need-element-copy-out-put-part-2
-element-copy-out-put-part-2 c = omega (arith, compound-parts _ 0 _ _ _ _ (c .before .before .before .before .part .given .1) (c .before .before .before .before .before .before .before .before .pre .parts) .1 .0, atoms-size (c .before .before .before .before .before .before .before .before))
+element-copy-out-put-part-2 c =
+    let matched = c .before .before .before .before in
+    let start = matched .before .before .before .before in
+    omega (arith, compound-parts _ _ _ _ _ _ (matched .part .given .1) (start .pre .parts) .2 .0, atoms-size start)
 
 put-part-requires : tie.Need-put-part-requires
-put-part-requires c κs = compound-room _ _ _ _ _ _ (c .before .before .before .before .before .part .given .1) _ _ _ (c .before .before .before .before .before .before .before .before .before .pre)
+put-part-requires c κs =
+    let matched = c .before .before .before .before .before in
+    compound-room _ _ _ _ _ _ (matched .part .given .1) _ _ _ (matched .before .before .before .before .pre)
 
 returns : tie.Need-returns
 unfolding flatsBy
@@ -50,7 +59,11 @@ same-length-2 : tie.Need-same-length-2
 same-length-2 c = search needs
 
 returns-3 : tie.Need-returns-3
-returns-3 c = put-calls _ _ _ _ _ _ _ _ (compound-calls _ _ _ _ _ _ (c .before .before .before .before .before .before .before .before .before .before .part .given .1) (c .before .before .before .before .before .before .before .before .before .before .before .before .before .before .pre .parts)) (c .before .before .before .before .put-part .ensures)
+returns-3 c =
+    let called = c .before .before .before .before in
+    let matched = called .before .before .before .before .before .before in
+    let same = compound-calls _ _ _ _ _ _ (matched .part .given .1) (matched .before .before .before .before .pre .parts) in
+    put-calls _ _ _ _ _ _ _ _ same (called .put-part .ensures)
 
 pub put-entry-spec : {M : Type 1} → statement M
 put-entry-spec =

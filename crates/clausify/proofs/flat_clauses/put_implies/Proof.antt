@@ -3,6 +3,7 @@ use mathlib.Core.Bool.{not}
 use lib.Dec.{eqb}
 use mathlib.Core.Path.{refl}
 use Rattle.atoms.proofs.Machine.{num-empty}
+use Rattle.ipl.specs.Clause.{bot}
 use Rattle.clausify.proofs.Written.{fits-second, fits-third, implies-put}
 use borrow.Author.Needs.{needs}
 use Rattle.clausify.proofs.flat_clauses.put_implies.Statement.{statement}
@@ -24,10 +25,18 @@ join-requires : tie.Need-join-requires
 join-requires c κs = search needs
 
 put-requires-2 : tie.Need-put-requires-2
-put-requires-2 c κs = fits-second _ _ _ _ _ _ (c .before .before .before .before .before .before .before .before .before .before .before .before .before .before .before .pre) (not (eqb (c .before .before .before .before .before .before .before .before .before .before .before .before .before .before .before .args .y) 255)) _ _ _ _ (c .before .before .before .before .before .before .before .put .ensures)
+put-requires-2 c κs =
+    let first = c .before .before .before .before .before .before .before in
+    let start = first .before .before .before .before .before .before .before .before in
+    fits-second _ _ _ _ _ _ (start .pre) (not (eqb (start .args .y) bot)) _ _ _ _ (first .put .ensures)
 
 put-requires-3 : tie.Need-put-requires-3
-put-requires-3 c κs = fits-third _ _ _ _ _ _ (c .before .before .before .before .before .before .before .before .before .before .before .before .before .before .before .before .before .before .before .before .before .before .pre) (not (eqb (c .before .before .before .before .before .before .before .before .before .before .before .before .before .before .before .before .before .before .before .before .before .before .args .y) 255)) (eqb (c .before .before .before .before .before .before .before .before .before .before .before .before .before .before .before .before .before .before .before .before .before .before .args .y) 255) _ _ _ _ _ _ _ _ (c .before .before .before .before .before .before .before .before .before .before .before .before .before .before .put .ensures) (c .before .before .before .before .before .before .put2 .ensures)
+put-requires-3 c κs =
+    let second = c .before .before .before .before .before .before in
+    let first = second .before .before .before .before .before .before .before .before in
+    let start = first .before .before .before .before .before .before .before .before in
+    fits-third _ _ _ _ _ _ (start .pre) (not (eqb (start .args .y) bot)) (eqb (start .args .y) bot)
+    _ _ _ _ _ _ _ _ (first .put .ensures) (second .put2 .ensures)
 
 same-length : tie.Need-same-length
 same-length c = search needs
@@ -36,7 +45,14 @@ same-length-2 : tie.Need-same-length-2
 same-length-2 c = search needs
 
 returns : tie.Need-returns
-returns c = implies-put _ _ _ _ _ _ (c .before .before .before .before .before .before .before .before .before .before .before .before .before .before .before .before .before .before .before .before .before .before .before .before .before .before .before .pre) _ _ _ _ (c .before .before .before .before .before .before .before .before .before .before .before .before .before .before .before .before .before .before .before .before .before .before .before .before .single .ensures) (c .before .before .before .before .before .before .before .before .before .before .before .before .before .before .before .before .before .before .before .before .before .before .before .single2 .ensures) (c .before .before .before .before .before .before .before .before .before .before .before .before .before .before .before .before .before .before .before .before .before .before .single3 .ensures) _ _ _ _ _ _ _ _ _ _ num-empty (c .before .before .before .before .before .before .before .before .before .before .before .before .join .ensures) _ refl (c .before .before .before .before .before .before .before .before .before .before .before .before .before .before .before .before .before .before .before .put .ensures) (c .before .before .before .before .before .before .before .before .before .before .before .put2 .ensures) (c .before .before .before .before .put3 .ensures)
+returns c =
+    let third = c .before .before .before .before in
+    let second = third .before .before .before .before .before .before .before in
+    let first = second .before .before .before .before .before .before .before .before in
+    let sets = first .before .before .before in
+    let asked = sets .before .before .before .before .before .pre in
+    implies-put _ _ _ _ _ _ asked _ _ _ _ (sets .before .before .single .ensures) (sets .before .single2 .ensures) (sets .single3 .ensures)
+    _ _ _ _ _ _ _ _ _ _ num-empty (second .before .join .ensures) _ refl (first .put .ensures) (second .put2 .ensures) (third .put3 .ensures)
 
 pub put-implies-spec : {M : Type 1} → statement M
 put-implies-spec =

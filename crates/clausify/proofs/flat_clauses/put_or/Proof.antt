@@ -1,6 +1,7 @@
 -- Three clauses, one after the other.
 use lib.Dec.{eqb}
 use mathlib.Core.Bool.{false}
+use Rattle.ipl.specs.Clause.{bot}
 use Rattle.clausify.proofs.Written.{fits-second, fits-third, or-put}
 use borrow.Author.Needs.{needs}
 use Rattle.clausify.proofs.flat_clauses.put_or.Statement.{statement}
@@ -22,10 +23,17 @@ put-requires : tie.Need-put-requires
 put-requires c κs = search needs
 
 put-requires-2 : tie.Need-put-requires-2
-put-requires-2 c κs = fits-second _ _ _ _ _ _ (c .before .before .before .before .before .before .before .before .before .before .before .before .before .before .before .pre) false _ _ _ _ (c .before .before .before .before .before .before .put .ensures)
+put-requires-2 c κs =
+    let first = c .before .before .before .before .before .before in
+    let asked = first .before .before .before .before .before .before .before .before .before .pre in
+    fits-second _ _ _ _ _ _ asked false _ _ _ _ (first .put .ensures)
 
 put-requires-3 : tie.Need-put-requires-3
-put-requires-3 c κs = fits-third _ _ _ _ _ _ (c .before .before .before .before .before .before .before .before .before .before .before .before .before .before .before .before .before .before .before .before .before .before .pre) false (eqb (c .before .before .before .before .before .before .before .before .before .before .before .before .before .before .before .before .before .before .before .before .before .before .args .y) 255) _ _ _ _ _ _ _ _ (c .before .before .before .before .before .before .before .before .before .before .before .before .before .put .ensures) (c .before .before .before .before .before .before .put2 .ensures)
+put-requires-3 c κs =
+    let second = c .before .before .before .before .before .before in
+    let first = second .before .before .before .before .before .before .before in
+    let start = first .before .before .before .before .before .before .before .before .before in
+    fits-third _ _ _ _ _ _ (start .pre) false (eqb (start .args .y) bot) _ _ _ _ _ _ _ _ (first .put .ensures) (second .put2 .ensures)
 
 same-length : tie.Need-same-length
 same-length c = search needs
@@ -34,7 +42,14 @@ same-length-2 : tie.Need-same-length-2
 same-length-2 c = search needs
 
 returns : tie.Need-returns
-returns c = or-put _ _ _ _ _ _ (c .before .before .before .before .before .before .before .before .before .before .before .before .before .before .before .before .before .before .before .before .before .before .before .before .before .before .before .pre) _ _ _ _ (c .before .before .before .before .before .before .before .before .before .before .before .before .before .before .before .before .before .before .before .before .before .before .before .before .single .ensures) (c .before .before .before .before .before .before .before .before .before .before .before .before .before .before .before .before .before .before .before .before .before .before .before .single2 .ensures) (c .before .before .before .before .before .before .before .before .before .before .before .before .before .before .before .before .before .before .before .before .before .before .single3 .ensures) _ _ _ _ _ _ _ _ _ (c .before .before .before .before .before .before .before .before .before .before .before .before .before .before .before .before .before .before .before .join .ensures) (c .before .before .before .before .before .before .before .before .before .before .before .before .before .before .before .before .before .before .put .ensures) (c .before .before .before .before .before .before .before .before .before .before .before .put2 .ensures) (c .before .before .before .before .put3 .ensures)
+returns c =
+    let third = c .before .before .before .before in
+    let second = third .before .before .before .before .before .before .before in
+    let first = second .before .before .before .before .before .before .before in
+    let sets = first .before .before .before .before in
+    let asked = sets .before .before .before .before .before .pre in
+    or-put _ _ _ _ _ _ asked _ _ _ _ (sets .before .before .single .ensures) (sets .before .single2 .ensures) (sets .single3 .ensures)
+    _ _ _ _ _ _ _ _ _ (first .before .join .ensures) (first .put .ensures) (second .put2 .ensures) (third .put3 .ensures)
 
 pub put-or-spec : {M : Type 1} → statement M
 put-or-spec =

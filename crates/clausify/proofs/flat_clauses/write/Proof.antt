@@ -2,26 +2,26 @@
 use Prim.Native.Nat.{_-_}
 use mathlib.Core.Path.{_≡_}
 use lib.ListN.{length}
-use Rattle.clausify.proofs.Loops.{FlatsWritten, flats-none, name-byte, flats-room, flats-more, flats-all}
+use Rattle.syntax.specs.Parts.{room}
+use Rattle.clausify.proofs.Loops.{FlatsWritten, flats-none, flats-room, flats-more, flats-all}
 use borrow.Author.Needs.{needs}
-use native.Mathlib.Omega.{arith}
 use Rattle.clausify.proofs.flat_clauses.write.Statement.{statement}
 use Rattle.clausify.proofs.flat_clauses.write.Tie as tie
 
 abbrev Inv-loop : tie.InvT-loop
-Inv-loop left₀ right₀ names parts k₀ x₀ i₀ left right k x i = FlatsWritten parts left₀ right₀ left right k x i
+Inv-loop left₀ right₀ parts names k₀ i₀ left right k i = FlatsWritten parts left₀ right₀ left right k i
 
 abbrev μ-loop : tie.MeasureT-loop
-μ-loop left₀ right₀ names parts k₀ x₀ i₀ left right k x i = parts .count - i
+μ-loop left₀ right₀ parts names k₀ i₀ left right k i = parts .count - i
 
-atoms-size : (c : tie.Start Inv-loop μ-loop) → length (c .args .names .atoms) ≡ 65
+atoms-size : (c : tie.Start Inv-loop μ-loop) → length (c .args .t4 .atoms) ≡ room
 atoms-size c = search needs
 
 loop-holds : tie.Need-loop-holds Inv-loop μ-loop
-loop-holds c = flats-none _ _ (c .before .before .pre .0) _ _
+loop-holds c = flats-none _ _ _
 
-cast-node : tie.Need-cast-node Inv-loop μ-loop
-cast-node c = search needs
+cast-at : tie.Need-cast-at Inv-loop μ-loop
+cast-at c = search needs
 
 mul-node : tie.Need-mul-node Inv-loop μ-loop
 mul-node c = search needs
@@ -29,14 +29,15 @@ mul-node c = search needs
 element-copy-out-node : tie.Need-element-copy-out-node Inv-loop μ-loop
 element-copy-out-node c = search needs
 
+element-copy-out-put-entry : tie.Need-element-copy-out-put-entry Inv-loop μ-loop
+element-copy-out-put-entry c = search needs
+
 put-entry-requires : tie.Need-put-entry-requires Inv-loop μ-loop
-put-entry-requires c κs = flats-room _ _ (c .before .before .before .before .before .before .before .pre .0) (atoms-size (c .before .before .before .before .before .before .before)) _ _ (c .before .before .before .loop-test .taken) _ _ _ _ _ _ (c .before .before .before .before .loop .inv) (c .before .before .before .before .before .before .before .pre .1) (c .before .before .before .before .before .before .before .pre .2)
-
-names-in-requires : tie.Need-names-in-requires Inv-loop μ-loop
-names-in-requires c κs = search needs
-
-add-x : tie.Need-add-x Inv-loop μ-loop
-add-x c = omega (arith, name-byte _ _ (c .before .before .before .before .before .before .before .before .before .before .before .before .before .pre .0) (atoms-size (c .before .before .before .before .before .before .before .before .before .before .before .before .before)) _ _ (c .before .before .before .before .before .before .before .before .before .loop-test .taken) _ (c .before .before .before .before .before .before .before .before .before .before .loop .inv .name) _ (c .names-in .ensures))
+put-entry-requires c κs =
+    let in-loop = c .before .before .before .before in
+    let at-loop = in-loop .before in
+    let start = at-loop .before .before .before in
+    flats-room _ _ (start .pre .0) (atoms-size start) _ _ (in-loop .loop-test .taken) _ _ _ _ _ (at-loop .loop .inv) (start .pre .1) (start .pre .2)
 
 add-i : tie.Need-add-i Inv-loop μ-loop
 add-i c = search needs
@@ -45,7 +46,12 @@ loop-less : tie.Need-loop-less Inv-loop μ-loop
 loop-less c = search needs
 
 loop-again : tie.Need-loop-again Inv-loop μ-loop
-loop-again c = flats-more _ _ (c .before .before .before .before .before .before .before .before .before .before .before .before .before .pre .0) (atoms-size (c .before .before .before .before .before .before .before .before .before .before .before .before .before)) _ _ (c .before .before .before .before .before .before .before .before .before .loop-test .taken) _ _ _ _ _ _ (c .before .before .before .before .before .before .before .before .before .before .loop .inv) _ _ _ _ (c .before .before .before .before .before .put-entry .ensures) (c .names-in .ensures)
+loop-again c =
+    let called = c .before .before .before .before in
+    let in-loop = called .before .before .before .before .before in
+    let at-loop = in-loop .before in
+    let start = at-loop .before .before .before in
+    flats-more _ _ (start .pre .0) (atoms-size start) _ _ (in-loop .loop-test .taken) _ _ _ _ _ (at-loop .loop .inv) _ _ _ (called .put-entry .ensures)
 
 same-length : tie.Need-same-length Inv-loop μ-loop
 same-length c = c .before .loop .inv .left-size
@@ -54,7 +60,7 @@ same-length-2 : tie.Need-same-length-2 Inv-loop μ-loop
 same-length-2 c = c .before .loop .inv .right-size
 
 returns : tie.Need-returns Inv-loop μ-loop
-returns c = flats-all _ _ (c .before .before .before .before .pre .0) _ _ (c .loop-test .left) _ _ _ _ _ (c .before .loop .inv)
+returns c = flats-all _ _ (c .before .before .before .before .pre .0) _ (c .loop-test .left) _ _ _ _ _ (c .before .loop .inv)
 
 pub write-spec : {M : Type 1} → statement M
 write-spec =
@@ -63,12 +69,11 @@ write-spec =
     Inv-loop
     μ-loop
     loop-holds
-    cast-node
+    cast-at
     mul-node
     element-copy-out-node
+    element-copy-out-put-entry
     put-entry-requires
-    names-in-requires
-    add-x
     add-i
     loop-less
     loop-again

@@ -1,6 +1,7 @@
 -- A row more for an implication.
 use mathlib.Core.Path.{_≡_, refl}
 use lib.ListN.{length}
+use Rattle.ipl.specs.Range.{implicationTable}
 use Rattle.prover.proofs.Rows.{implications-more}
 use Rattle.clausify.proofs.Written.{and-appended, or-appended, from-bot-appended, implies-appended}
 use borrow.Author.Needs.{needs}
@@ -39,7 +40,12 @@ returns-3 : tie.Need-returns-3
 returns-3 c = or-appended _ _ _ _ _ (c .enum-told2 .given .1)
 
 returns-4 : tie.Need-returns-4
-returns-4 c = let s = c .before .before .before in let a : length (s .args .t .a) ≡ 128 = search needs in let b : length (s .args .t .b) ≡ 128 = search needs in let d : length (s .args .t .c) ≡ 128 = search needs in implies-appended _ _ _ _ _ _ (c .before .enum-told3 .given .1) (c .if1 .left) refl (implications-more (s .args .t) _ _ _ (omega arith) (omega arith) (omega arith))
+returns-4 c =
+    let t = c .before .before .before .args .t in
+    let a : length (t .a) ≡ implicationTable = search needs in
+    let b : length (t .b) ≡ implicationTable = search needs in
+    let d : length (t .c) ≡ implicationTable = search needs in
+    implies-appended _ _ _ _ _ _ (c .before .enum-told3 .given .1) (c .if1 .left) refl (implications-more t _ _ _ (omega arith) (omega arith) (omega arith))
 
 pub with-part-spec : {M : Type 1} → statement M
 with-part-spec =

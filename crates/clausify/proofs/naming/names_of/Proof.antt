@@ -42,7 +42,7 @@ loop-again : tie.Need-loop-again Inv-loop μ-loop
 loop-again c = given-more _ (c .before .before .before .before .before .pre) _ _ _ (c .before .before .before .loop .inv) _ _ (c .before .before .loop-test .taken) (c .pass .ensures)
 
 returns : tie.Need-returns Inv-loop μ-loop
-returns c = given-all _ (c .before .before .before .pre) _ _ _ (c .before .loop .inv) _ (c .before .before .letter-count .ensures) (c .loop-test .left)
+returns c = given-all _ (c .before .before .before .pre) _ _ _ (c .before .loop .inv) (c .loop-test .left)
 
 pub names-of-spec : {M : Type 1} → statement M
 names-of-spec =

@@ -21,7 +21,9 @@ returns c = λ a. closing-none _ a _ _ (c .if1 .taken)
 returns-2 : tie.Need-returns-2
 returns-2 c = λ a.
     let s = c .before .before .before .before in
-    c .with-flat-row .ensures ∙ closing-some (flatsOf (s .args .t)) a _ _ _ _ (c .before .before .before .if1 .left) (c .before .before .single .ensures ∙ s .pre .b-atom) (c .before .single2 .ensures ∙ s .pre .c-atom)
+    c .with-flat-row .ensures
+    ∙ closing-some (flatsOf (s .args .t)) a _ _ _ _ (c .before .before .before .if1 .left)
+    (c .before .before .single .ensures ∙ s .pre .b-atom) (c .before .single2 .ensures ∙ s .pre .c-atom)
 
 pub with-closing-spec : {M : Type 1} → statement M
 with-closing-spec =

@@ -18,9 +18,10 @@ with-clauses-requires c κs = search needs
 returns : tie.Need-returns
 unfolding taken
 returns c =
-    let s = c .before .before .before in (
+    let s = c .before .before .before .args .s in (
       c .with-clauses .ensures .0
-          ∙ ap (λ (F : List Flat). record { n = s .args .s .n; flats = F; implications = implicationsOf (s .args .s .implications); steps = stepsOf (s .args .s .steps) }) (c .before .before .with-flat-row .ensures),
+          ∙ ap (λ (F : List Flat). record { n = s .n; flats = F; implications = implicationsOf (s .implications); steps = stepsOf (s .steps) })
+          (c .before .before .with-flat-row .ensures),
       c .with-clauses .ensures .1,
     )
 

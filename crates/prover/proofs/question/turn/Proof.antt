@@ -1,12 +1,37 @@
 -- Each way that a turn can go is that of the definition.
-use mathlib.Core.Path.{sym, ap, _∙_}
-use Rattle.atoms.specs.Words.{num}
+use mathlib.Core.Path.{_≡_, sym, ap, _∙_}
+use Prim.Native.Nat.{_<_}
+use Rattle.atoms.specs.Sets.{insert}
+use Rattle.atoms.specs.Words.{num, rowOf}
+use Rattle.ipl.specs.Range.{implicationTable}
 use Rattle.sat.specs.Answer.{answerOf}
+use Rattle.prover.specs.State.{byteAt}
 use Rattle.prover.proofs.Turns.{first-atoms, begin-right, refuted-right, number, given-is, grow-right, learn-right}
 use borrow.Author.Needs.{needs}
 use native.Mathlib.Omega.{arith}
 use Rattle.prover.proofs.question.turn.Statement.{statement}
 use Rattle.prover.proofs.question.turn.Tie as tie
+
+-- Once there is a pair that is not realized: the place where the turn began, and that there is a world.
+abbrev start : tie.Else2 → tie.Start
+start c = c .before .before .before .before .before .before .before .before .before
+
+abbrev some-world : (c : tie.Else2) → start c .args .p .worlds ≡ 0 → ⊥
+some-world c = c .before .before .before .if1 .left
+
+number-small : (c : tie.Else2) → c .before .next-pair .result .implication < implicationTable
+number-small c =
+    let s = start c in
+    omega (arith, number (s .args .goal) (s .pre .0) (s .pre .1) (some-world c) (c .before .next-pair .ensures) (c .if2 .left), s .pre .0 .count)
+
+-- The set given to the question is that of the definition.
+set-given : (c : tie.After-join) → let pair = c .before .before .before .before .before in let q = pair .before .next-pair .result in let s = start pair .args in
+    num (c .join .result) ≡ insert (rowOf (s .sets .now) (q .world)) (byteAt (s .t8 .a) (q .implication))
+set-given c =
+    let pair = c .before .before .before .before .before in
+    let s = start pair in
+    given-is (s .args .goal) (s .pre .0) (s .pre .1) (some-world pair) (pair .before .next-pair .ensures) (pair .if2 .left) _ _
+    (c .before .single .ensures) _ (c .before .before .before .row .ensures) (c .join .ensures)
 
 begin-requires : tie.Need-begin-requires
 begin-requires c κs = search needs
@@ -22,29 +47,30 @@ same-length-3 c = search needs
 
 returns : tie.Need-returns
 returns c =
-    let s = c .before .before .before .before .before .before .before .before .before .before .before .before in
-    begin-right (s .args .n) (s .args .goal) (s .args .t8) (s .pre .0) (record { left = s .args .left .now; right = s .args .right .now; numbers = s .args .numbers .now; assumed = s .args .assumed .now; sets = s .args .sets .now }) (s .args .p) (s .pre .1) (c .before .before .before .before .before .before .if1 .taken) _ (c .before .before .begin .result) (c .before .before .begin .ensures)
+    let begun = c .before .before in
+    let worldless = begun .before .before .before .before in
+    let s = worldless .before .before .before .before .before .before in
+    begin-right (s .args .goal) (s .pre .0) (s .pre .1) (worldless .if1 .taken) _ (begun .begin .result) (begun .begin .ensures)
 
 next-pair-requires : tie.Need-next-pair-requires
-next-pair-requires c κs = let s = c .before .before .before .before .before .before .before in (s .pre .1 .pair-number, s .pre .1 .pair-world, s .pre .0 .count, first-atoms _ _ (s .pre .0))
+next-pair-requires c κs =
+    let s = c .before .before .before .before .before .before .before in
+    (s .pre .1 .pair-number, s .pre .1 .pair-world, s .pre .0 .count, first-atoms (s .pre .0))
 
 same-length-4 : tie.Need-same-length-4
 same-length-4 c = search needs
 
 returns-2 : tie.Need-returns-2
 returns-2 c =
-    let q = c .before in
-    let s = q .before .before .before .before .before .before .before .before in
-    refuted-right (s .args .n) (s .args .goal) (s .args .t8) (s .pre .0) (record { left = s .args .left .now; right = s .args .right .now; numbers = s .args .numbers .now; assumed = s .args .assumed .now; sets = s .args .sets .now }) (s .args .p) (s .pre .1) (q .before .before .if1 .left) (q .next-pair .result) (q .next-pair .ensures) (c .if2 .taken)
+    let found = c .before in
+    let s = found .before .before .before .before .before .before .before .before in
+    refuted-right (s .args .goal) (s .pre .0) (s .pre .1) (found .before .before .if1 .left) (found .next-pair .ensures) (c .if2 .taken)
 
 row-requires : tie.Need-row-requires
 row-requires c κs = search needs
 
 element-copy-out-single : tie.Need-element-copy-out-single
-element-copy-out-single c =
-    let q = c .before .before .before in
-    let s = q .before .before .before .before .before .before .before .before in
-    omega (arith, number (s .args .n) (s .args .goal) (s .args .t8) (s .pre .0) (record { left = s .args .left .now; right = s .args .right .now; numbers = s .args .numbers .now; assumed = s .args .assumed .now; sets = s .args .sets .now }) (s .args .p) (s .pre .1) (q .before .before .if1 .left) (q .next-pair .result) (q .next-pair .ensures) (c .before .before .if2 .left), s .pre .0 .count)
+element-copy-out-single c = number-small (c .before .before)
 
 single-requires : tie.Need-single-requires
 single-requires c κs = search needs
@@ -56,10 +82,7 @@ add-ask : tie.Need-add-ask
 add-ask c = search needs
 
 element-copy-out-ask : tie.Need-element-copy-out-ask
-element-copy-out-ask c =
-    let q = c .before .before .before .before .before .before .before .before .before in
-    let s = q .before .before .before .before .before .before .before .before in
-    omega (arith, number (s .args .n) (s .args .goal) (s .args .t8) (s .pre .0) (record { left = s .args .left .now; right = s .args .right .now; numbers = s .args .numbers .now; assumed = s .args .assumed .now; sets = s .args .sets .now }) (s .args .p) (s .pre .1) (q .before .before .if1 .left) (q .next-pair .result) (q .next-pair .ensures) (c .before .before .before .before .before .before .before .before .if2 .left), s .pre .0 .count)
+element-copy-out-ask c = number-small (c .before .before .before .before .before .before .before .before)
 
 ask-requires : tie.Need-ask-requires
 ask-requires c κs = search needs
@@ -68,22 +91,18 @@ enum-known-m : tie.Need-enum-known-m
 enum-known-m c = search needs
 
 grow-requires : tie.Need-grow-requires
-grow-requires c κs = c .before .before .before .before .before .before .before .before .before .before .before .before .before .before .before .before .before .before .before .before .before .before .before .pre .2
+grow-requires c κs =
+    let pair = c .before .before .before .before .before .before .before .before .before .before .before .before .before .before in
+    start pair .pre .2
 
 enum-told : tie.Need-enum-told
 enum-told c = search needs
 
 learn-requires : tie.Need-learn-requires
 learn-requires c κs =
-    let q = c .before .before .before .before .before .before .before .before .before .before .before .before .before .before .before .before .before in
-    let s = q .before .before .before .before .before .before .before .before in
-    record {
-      few = s .pre .0 .few;
-      number = omega (arith, number (s .args .n) (s .args .goal) (s .args .t8) (s .pre .0) (record { left = s .args .left .now; right = s .args .right .now; numbers = s .args .numbers .now; assumed = s .args .assumed .now; sets = s .args .sets .now }) (s .args .p) (s .pre .1) (q .before .before .if1 .left) (q .next-pair .result) (q .next-pair .ensures) (c .before .before .before .before .before .before .before .before .before .before .before .before .before .before .before .before .if2 .left), s .pre .0 .count);
-      size = s .pre .1 .numbers-size;
-      flats = s .pre .1 .few-flats;
-      questions = s .pre .2;
-    }
+    let pair = c .before .before .before .before .before .before .before .before .before .before .before .before .before .before .before .before in
+    let s = start pair in
+    record { few = s .pre .0 .few; number = number-small pair; size = s .pre .1 .numbers-size; flats = s .pre .1 .few-flats; questions = s .pre .2 }
 
 same-length-5 : tie.Need-same-length-5
 same-length-5 c = search needs
@@ -96,11 +115,14 @@ same-length-7 c = search needs
 
 returns-3 : tie.Need-returns-3
 returns-3 c =
-    let q = c .before .before .before .before .before .before .before .before .before .before .before .before .before .before .before .before .before .before in
-    let s = q .before .before .before .before .before .before .before .before in
-    let lt = c .before .before .before .before .before .before .before .before .before .before .before .before .before .before .before .before .before .if2 .left in
-    grow-right (s .args .n) (s .args .goal) (s .args .t8) (s .pre .0) (record { left = s .args .left .now; right = s .args .right .now; numbers = s .args .numbers .now; assumed = s .args .assumed .now; sets = s .args .sets .now }) (s .args .p) (s .pre .1) (q .before .before .if1 .left) (q .next-pair .result) (q .next-pair .ensures) lt _ (given-is (s .args .n) (s .args .goal) (s .args .t8) (s .pre .0) (record { left = s .args .left .now; right = s .args .right .now; numbers = s .args .numbers .now; assumed = s .args .assumed .now; sets = s .args .sets .now }) (s .args .p) (s .pre .1) (q .before .before .if1 .left) (q .next-pair .result) (q .next-pair .ensures) lt _ _ (c .before .before .before .before .before .before .before .before .before .before .before .before .before .single .ensures) _ (c .before .before .before .before .before .before .before .before .before .before .before .before .before .before .before .row .ensures) (c .before .before .before .before .before .before .before .before .before .before .before .before .join .ensures))
-    (num (c .before .before .before .before .before .m .given .0 .0)) (ap answerOf (sym (c .before .before .before .before .before .m .given .1)) ∙ c .before .before .before .before .before .before .before .ask .ensures) _ (c .before .before .grow .result) (c .before .before .grow .ensures)
+    let grown = c .before .before in
+    let known = grown .before .before .before in
+    let asked = known .before .before in
+    let joined = asked .before .before .before .before .before in
+    let pair = joined .before .before .before .before .before in
+    let s = start pair in
+    grow-right (s .args .goal) (s .pre .0) (s .pre .1) (some-world pair) (pair .before .next-pair .ensures) (pair .if2 .left) (set-given joined)
+    (ap answerOf (sym (known .m .given .1)) ∙ asked .ask .ensures) _ (grown .grow .result) (grown .grow .ensures)
 
 same-length-8 : tie.Need-same-length-8
 same-length-8 c = search needs
@@ -119,11 +141,14 @@ same-length-12 c = search needs
 
 returns-4 : tie.Need-returns-4
 returns-4 c =
-    let q = c .before .before .before .before .before .before .before .before .before .before .before .before .before .before .before .before .before .before .before .before .before .before .before .before .before .before in
-    let s = q .before .before .before .before .before .before .before .before in
-    let lt = c .before .before .before .before .before .before .before .before .before .before .before .before .before .before .before .before .before .before .before .before .before .before .before .before .before .if2 .left in
-    learn-right (s .args .n) (s .args .goal) (s .args .t8) (s .pre .0) (record { left = s .args .left .now; right = s .args .right .now; numbers = s .args .numbers .now; assumed = s .args .assumed .now; sets = s .args .sets .now }) (s .args .p) (s .pre .1) (q .before .before .if1 .left) (q .next-pair .result) (q .next-pair .ensures) lt _ (given-is (s .args .n) (s .args .goal) (s .args .t8) (s .pre .0) (record { left = s .args .left .now; right = s .args .right .now; numbers = s .args .numbers .now; assumed = s .args .assumed .now; sets = s .args .sets .now }) (s .args .p) (s .pre .1) (q .before .before .if1 .left) (q .next-pair .result) (q .next-pair .ensures) lt _ _ (c .before .before .before .before .before .before .before .before .before .before .before .before .before .before .before .before .before .before .before .before .before .single .ensures) _ (c .before .before .before .before .before .before .before .before .before .before .before .before .before .before .before .before .before .before .before .before .before .before .before .row .ensures) (c .before .before .before .before .before .before .before .before .before .before .before .before .before .before .before .before .before .before .before .before .join .ensures))
-    (ap answerOf (sym (c .before .before .before .before .before .before .before .before .before .before .before .before .before .enum-told .given .1)) ∙ c .before .before .before .before .before .before .before .before .before .before .before .before .before .before .before .ask .ensures) _ (c .before .before .before .before .before .before .before .before .learn .result) (c .before .before .before .before .before .before .before .before .learn .ensures (s .args .sets .now))
+    let learnt = c .before .before .before .before .before .before .before .before in
+    let told = learnt .before .before .before .before .before in
+    let asked = told .before .before in
+    let joined = asked .before .before .before .before .before in
+    let pair = joined .before .before .before .before .before in
+    let s = start pair in
+    learn-right (s .args .goal) (s .pre .0) (s .pre .1) (some-world pair) (pair .before .next-pair .ensures) (pair .if2 .left) (set-given joined)
+    (ap answerOf (sym (told .enum-told .given .1)) ∙ asked .ask .ensures) _ (learnt .learn .result) (learnt .learn .ensures (s .args .sets .now))
 
 pub turn-spec : {M : Type 1} → statement M
 turn-spec =

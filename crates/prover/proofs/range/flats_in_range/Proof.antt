@@ -1,30 +1,94 @@
--- The count, then both columns.
-use borrow.Author.Tests.{le-leb, lt-leb}
+-- The count, then the clauses one after the other.
+use borrow.Author.Tests.{not-true, not-false}
+use mathlib.Core.Bool.{true}
+use mathlib.Core.Path.{_≡_, refl, sym, ap₂, _∙_}
+use Prim.Native.Nat.{ℕ, _≤_, _-_}
+use Rattle.ipl.specs.Range.{flatInRange}
+use Rattle.sat.specs.Table.{clauseAt, clauses}
 use Rattle.prover.specs.InRange.{flatsInRange}
-use Rattle.prover.proofs.Ranges.{flats-columns}
+use Rattle.ipl.specs.Lists.{all, tabulate}
+use Rattle.ipl.proofs.Lists.{all-next}
+use Rattle.prover.proofs.Ranges.{too-many, row-fails, rows-hold}
 use borrow.Author.Needs.{needs}
+use native.Mathlib.Omega.{arith}
 use Rattle.prover.proofs.range.flats_in_range.Statement.{statement}
 use Rattle.prover.proofs.range.flats_in_range.Tie as tie
 
-returns : tie.Need-returns
-unfolding flatsInRange
-returns c = rw (lt-leb _ _ (c .if1 .taken))
+abbrev Inv-loop : tie.InvT-loop
+Inv-loop n t i₀ i = (i ≤ t .count) × (all (flatInRange n) (tabulate (clauseAt (t .left) (t .right)) i) ≡ true)
 
-sets-in-range-requires : tie.Need-sets-in-range-requires
-sets-in-range-requires c κs = search needs
+abbrev μ-loop : tie.MeasureT-loop
+μ-loop n t i₀ i = t .count - i
 
-sets-in-range-requires-2 : tie.Need-sets-in-range-requires-2
-sets-in-range-requires-2 c κs = search needs
+-- What the test says of the row.
+tested : (c : tie.After-flat-in-range Inv-loop μ-loop) → let at-loop = c .before .before .before .before .before .before .before .before .before .before in
+    let given = at-loop .before .before .args in
+    c .flat-in-range .result ≡ flatInRange (given .n) (clauseAt (given .t1 .left) (given .t1 .right) (at-loop .loop .i))
+tested c =
+    let read = c .before .before .before .before .before in
+    let n = read .before .before .before .before .before .before .before .args .n in
+    c .flat-in-range .ensures ∙ ap₂ (λ (x y : ℕ). flatInRange n (record { left = x; right = y })) (read .row .ensures) (c .before .row2 .ensures)
 
-returns-2 : tie.Need-returns-2
-unfolding flatsInRange
-returns-2 c = rw (le-leb _ _ (c .before .before .before .before .before .before .before .before .before .if1 .left), flats-columns, ← c .before .before .before .before .before .sets-in-range .ensures, c .before .before .before .before .if2 .taken) (c .sets-in-range2 .ensures)
+returns : tie.Need-returns Inv-loop μ-loop
+unfolding flatsInRange clauses
+returns c = let given = c .before .args in too-many (flatInRange (given .n)) (clauseAt (given .t1 .left) (given .t1 .right)) (given .t1 .count) _ (c .if1 .taken)
 
-returns-3 : tie.Need-returns-3
-unfolding flatsInRange
-returns-3 c = rw (le-leb _ _ (c .before .before .before .before .before .if1 .left), flats-columns, ← c .before .sets-in-range .ensures, c .if2 .left)
+loop-holds : tie.Need-loop-holds Inv-loop μ-loop
+unfolding all tabulate
+loop-holds c = (omega arith, refl)
+
+row-requires : tie.Need-row-requires Inv-loop μ-loop
+row-requires c κs = search needs
+
+row-requires-2 : tie.Need-row-requires-2 Inv-loop μ-loop
+row-requires-2 c κs = search needs
+
+flat-in-range-requires : tie.Need-flat-in-range-requires Inv-loop μ-loop
+flat-in-range-requires c κs = search needs
+
+returns-2 : tie.Need-returns-2 Inv-loop μ-loop
+unfolding flatsInRange clauses
+returns-2 c =
+    let at-loop = c .before .before .before .before .before .before .before .before .before .before .before in
+    let given = at-loop .before .before .args in
+    row-fails (flatInRange (given .n)) (clauseAt (given .t1 .left) (given .t1 .right)) (given .t1 .count) _ (at-loop .loop .i) (omega arith)
+    (sym (tested (c .before)) ∙ not-true _ (c .if2 .taken))
+
+add-i : tie.Need-add-i Inv-loop μ-loop
+add-i c = omega arith
+
+loop-less : tie.Need-loop-less Inv-loop μ-loop
+loop-less c = omega arith
+
+loop-again : tie.Need-loop-again Inv-loop μ-loop
+loop-again c =
+    let at-loop = c .before .before .before .before .before .before .before .before .before .before .before in
+    let given = at-loop .before .before .args in (
+      omega arith,
+      all-next (flatInRange (given .n)) (clauseAt (given .t1 .left) (given .t1 .right)) (at-loop .loop .i) (at-loop .loop .inv .1) (sym (tested (c .before)) ∙ not-false _ (c .if2 .left)),
+    )
+
+returns-3 : tie.Need-returns-3 Inv-loop μ-loop
+unfolding flatsInRange clauses
+returns-3 c =
+    let at-loop = c .before in
+    let given = at-loop .before .before .args in
+    rows-hold (flatInRange (given .n)) (clauseAt (given .t1 .left) (given .t1 .right)) (given .t1 .count) _ (at-loop .before .if1 .left)
+    (at-loop .loop .i) (omega arith) (omega arith) (at-loop .loop .inv .1)
 
 pub flats-in-range-spec : {M : Type 1} → statement M
 flats-in-range-spec =
     tie.close
-    (tie.spec returns sets-in-range-requires sets-in-range-requires-2 returns-2 returns-3)
+    (tie.spec
+    Inv-loop
+    μ-loop
+    returns
+    loop-holds
+    row-requires
+    row-requires-2
+    flat-in-range-requires
+    returns-2
+    add-i
+    loop-less
+    loop-again
+    returns-3)

@@ -1,51 +1,92 @@
 -- One test after the other.
 use borrow.Author.Tests.{not-true, not-false}
-use Rattle.prover.specs.InRange.{inRange}
+use mathlib.Core.Bool.{true}
+use mathlib.Core.Path.{_≡_, sym, _∙_}
+use Rattle.ipl.specs.Book.{countInRange}
+use Rattle.prover.specs.InRange.{flatsInRange, implicationsInRange, stepsInRange, worldsInRange, inRange}
 use borrow.Author.Needs.{needs}
 use Rattle.prover.proofs.range.in_range.Statement.{statement}
 use Rattle.prover.proofs.range.in_range.Tie as tie
+
+-- What is known once a test is passed.
+count : (c : tie.Else1) → let s = c .before .before .args .s in countInRange (s .n) ≡ true
+count c = sym (c .before .count-in-range .ensures) ∙ not-false _ (c .if1 .left)
+
+flats : (c : tie.Else2) → let s = c .before .before .before .before .args .s in flatsInRange (s .n) (s .flats) ≡ true
+flats c = sym (c .before .flats-in-range .ensures) ∙ not-false _ (c .if2 .left)
+
+implications : (c : tie.Else3) → let s = c .before .before .before .before .before .before .args .s in implicationsInRange (s .n) (s .implications) ≡ true
+implications c = sym (c .before .implications-in-range .ensures) ∙ not-false _ (c .if3 .left)
+
+steps : (c : tie.Else4) → let s = c .before .before .before .before .before .before .before .before .before .args .s in
+    stepsInRange (s .n) (s .implications .count) (s .steps) ≡ true
+steps c = sym (c .before .steps-in-range .ensures) ∙ not-false _ (c .if4 .left)
+
+worlds : (c : tie.Else5) → let s = c .before .before .before .before .before .before .before .before .before .before .before .args .s in
+    worldsInRange (s .n) (s .worlds) ≡ true
+worlds c = sym (c .before .worlds-in-range .ensures) ∙ not-false _ (c .if5 .left)
 
 count-in-range-requires : tie.Need-count-in-range-requires
 count-in-range-requires c κs = search needs
 
 returns : tie.Need-returns
 unfolding inRange
-returns c = rw (← c .before .count-in-range .ensures, not-true (c .before .count-in-range .result) (c .if1 .taken))
+returns c = rw (sym (c .before .count-in-range .ensures) ∙ not-true _ (c .if1 .taken))
 
 flats-in-range-requires : tie.Need-flats-in-range-requires
 flats-in-range-requires c κs = search needs
 
 returns-2 : tie.Need-returns-2
 unfolding inRange
-returns-2 c = rw (← c .before .before .before .count-in-range .ensures, not-false (c .before .before .before .count-in-range .result) (c .before .before .if1 .left), ← c .before .flats-in-range .ensures, not-true (c .before .flats-in-range .result) (c .if2 .taken))
+returns-2 c = rw (count (c .before .before), sym (c .before .flats-in-range .ensures) ∙ not-true _ (c .if2 .taken))
 
 implications-in-range-requires : tie.Need-implications-in-range-requires
 implications-in-range-requires c κs = search needs
 
 returns-3 : tie.Need-returns-3
 unfolding inRange
-returns-3 c = rw (← c .before .before .before .before .before .count-in-range .ensures, not-false (c .before .before .before .before .before .count-in-range .result) (c .before .before .before .before .if1 .left), ← c .before .before .before .flats-in-range .ensures, not-false (c .before .before .before .flats-in-range .result) (c .before .before .if2 .left), ← c .before .implications-in-range .ensures, not-true (c .before .implications-in-range .result) (c .if3 .taken))
+returns-3 c =
+    let after-flats = c .before .before in
+    rw (count (after-flats .before .before), flats after-flats, sym (c .before .implications-in-range .ensures) ∙ not-true _ (c .if3 .taken))
 
 steps-in-range-requires : tie.Need-steps-in-range-requires
 steps-in-range-requires c κs = search needs
 
 returns-4 : tie.Need-returns-4
 unfolding inRange
-returns-4 c = rw (← c .before .before .before .before .before .before .before .before .count-in-range .ensures, not-false (c .before .before .before .before .before .before .before .before .count-in-range .result) (c .before .before .before .before .before .before .before .if1 .left), ← c .before .before .before .before .before .before .flats-in-range .ensures, not-false (c .before .before .before .before .before .before .flats-in-range .result) (c .before .before .before .before .before .if2 .left), ← c .before .before .before .before .implications-in-range .ensures, not-false (c .before .before .before .before .implications-in-range .result) (c .before .before .before .if3 .left), ← c .before .steps-in-range .ensures, not-true (c .before .steps-in-range .result) (c .if4 .taken))
+returns-4 c =
+    let after-implications = c .before .before .before in
+    let after-flats = after-implications .before .before in
+    rw (count (after-flats .before .before), flats after-flats, implications after-implications, sym (c .before .steps-in-range .ensures) ∙ not-true _ (c .if4 .taken))
 
 worlds-in-range-requires : tie.Need-worlds-in-range-requires
 worlds-in-range-requires c κs = search needs
 
 returns-5 : tie.Need-returns-5
 unfolding inRange
-returns-5 c = rw (← c .before .before .before .before .before .before .before .before .before .before .count-in-range .ensures, not-false (c .before .before .before .before .before .before .before .before .before .before .count-in-range .result) (c .before .before .before .before .before .before .before .before .before .if1 .left), ← c .before .before .before .before .before .before .before .before .flats-in-range .ensures, not-false (c .before .before .before .before .before .before .before .before .flats-in-range .result) (c .before .before .before .before .before .before .before .if2 .left), ← c .before .before .before .before .before .before .implications-in-range .ensures, not-false (c .before .before .before .before .before .before .implications-in-range .result) (c .before .before .before .before .before .if3 .left), ← c .before .before .before .steps-in-range .ensures, not-false (c .before .before .before .steps-in-range .result) (c .before .before .if4 .left), ← c .before .worlds-in-range .ensures, not-true (c .before .worlds-in-range .result) (c .if5 .taken))
+returns-5 c =
+    let after-steps = c .before .before in
+    let after-implications = after-steps .before .before .before in
+    let after-flats = after-implications .before .before in
+    rw (
+      count (after-flats .before .before),
+      flats after-flats,
+      implications after-implications,
+      steps after-steps,
+      sym (c .before .worlds-in-range .ensures) ∙ not-true _ (c .if5 .taken),
+    )
 
 held-in-range-requires : tie.Need-held-in-range-requires
 held-in-range-requires c κs = search needs
 
 returns-6 : tie.Need-returns-6
 unfolding inRange
-returns-6 c = rw (← c .before .before .before .before .before .before .before .before .before .before .before .count-in-range .ensures, not-false (c .before .before .before .before .before .before .before .before .before .before .before .count-in-range .result) (c .before .before .before .before .before .before .before .before .before .before .if1 .left), ← c .before .before .before .before .before .before .before .before .before .flats-in-range .ensures, not-false (c .before .before .before .before .before .before .before .before .before .flats-in-range .result) (c .before .before .before .before .before .before .before .before .if2 .left), ← c .before .before .before .before .before .before .before .implications-in-range .ensures, not-false (c .before .before .before .before .before .before .before .implications-in-range .result) (c .before .before .before .before .before .before .if3 .left), ← c .before .before .before .before .steps-in-range .ensures, not-false (c .before .before .before .before .steps-in-range .result) (c .before .before .before .if4 .left), ← c .before .before .worlds-in-range .ensures, not-false (c .before .before .worlds-in-range .result) (c .before .if5 .left)) (c .held-in-range .ensures)
+returns-6 c =
+    let after-worlds = c .before in
+    let after-steps = after-worlds .before .before in
+    let after-implications = after-steps .before .before .before in
+    let after-flats = after-implications .before .before in
+    rw (count (after-flats .before .before), flats after-flats, implications after-implications, steps after-steps, worlds after-worlds) (c .held-in-range .ensures)
 
 pub in-range-spec : {M : Type 1} → statement M
 in-range-spec =

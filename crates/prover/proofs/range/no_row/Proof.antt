@@ -1,6 +1,5 @@
 -- A row is needed unless b is ⊥.
 use borrow.Author.Tests.{eq-eqb, ne-eqb}
-use borrow.Author.Tests.{eq-eqb, ne-eqb}
 use Rattle.prover.proofs.range.no_row.Statement.{statement}
 use Rattle.prover.proofs.range.no_row.Tie as tie
 

@@ -34,7 +34,7 @@ is-empty-requires : tie.Need-is-empty-requires
 is-empty-requires c κs = search needs
 
 returns : tie.Need-returns
-returns c =
+returns c = λ third.
     let w = c .before .before .before in
     let j = w .before .before in
     let f = j .before .before .before in
@@ -42,7 +42,7 @@ returns c =
     c .is-empty .ensures ∙ ap (λ (z : ℕ). eqb z 0) (c .before .join2 .ensures
     ∙ ap₂ union (w .without .ensures ∙ ap (λ (z : ℕ). minus z (num (s .u))) (j .join .ensures ∙ ap (union (num (s .m))) (j .before .single .ensures)))
     (c .before .before .common .ensures ∙ ap (λ (z : ℕ). common z (num (s .u))) (w .before .single2 .ensures)))
-    ∙ beyond-tested (record { a = s .a; b = s .b; c = s .c }) (num (s .m)) (num (s .u)) (f .pre .1) (f .pre .0) (j .before .before .bounded .ensures)
+    ∙ beyond-tested (record { a = s .a; b = s .b; c = third }) (num (s .m)) (num (s .u)) (f .pre .1) (f .pre .0) (j .before .before .bounded .ensures)
 
 pub is-beyond-spec : {M : Type 1} → statement M
 is-beyond-spec =

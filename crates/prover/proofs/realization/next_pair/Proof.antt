@@ -37,9 +37,12 @@ loop-less c = omega arith
 
 loop-again : tie.Need-loop-again Inv-loop μ-loop
 loop-again c =
-    let f = c .before .before .before .first-at .ensures in
-    let l = c .before .before .before .before .before .before in
-    (zero-le, omega arith, λ h. passed-world _ _ _ (record { world = l .loop .q .world; implication = c .before .before .before .first-at .result }) (c .before .if2 .left) (passed-at _ _ _ (l .loop .q) _ f (l .loop .inv .2 h)))
+    let f = c .before .before .before .first-at in
+    let l = c .before .before .before .before .before .before .loop in (
+      zero-le,
+      omega arith,
+      λ h. passed-world _ _ _ (record { world = l .q .world; implication = f .result }) (c .before .if2 .left) (passed-at _ _ _ (l .q) _ (f .ensures) (l .inv .2 h)),
+    )
 
 returns-2 : tie.Need-returns-2 Inv-loop μ-loop
 returns-2 c =

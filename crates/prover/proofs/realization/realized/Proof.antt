@@ -39,7 +39,8 @@ own c =
     let j = c .before .before .before in
     let b = j .before .before .before in
     c .meets .ensures
-    ∙ ap (λ (z : ℕ). meets z (num (b .before .before .args .m))) (c .before .join2 .ensures ∙ ap₂ union (j .join .ensures ∙ ap₂ union (j .before .before .single .ensures) (j .before .single2 .ensures)) (c .before .before .single3 .ensures))
+    ∙ ap (λ (z : ℕ). meets z (num (b .before .before .args .m)))
+    (c .before .join2 .ensures ∙ ap₂ union (j .join .ensures ∙ ap₂ union (j .before .before .single .ensures) (j .before .single2 .ensures)) (c .before .before .single3 .ensures))
     ∙ own-tested _ (b .bounded .ensures) _ _ _
 
 returns : tie.Need-returns
@@ -53,7 +54,7 @@ any-beyond-requires c κs =
 
 returns-2 : tie.Need-returns-2
 unfolding realizes
-returns-2 c = rw (← own (c .before .before), c .before .if1 .left) (c .any-beyond .ensures)
+returns-2 c = rw (← own (c .before .before), c .before .if1 .left) (c .any-beyond .ensures _)
 
 pub realized-spec : {M : Type 1} → statement M
 realized-spec =

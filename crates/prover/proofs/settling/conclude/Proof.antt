@@ -11,26 +11,38 @@ enum-known-end c = search needs
 enum-known-end-2 : tie.Need-enum-known-end-2
 enum-known-end-2 c = search needs
 
-add-with-answer : tie.Need-add-with-answer
-add-with-answer c = omega (arith, few-valid _ _ (c .before .before .before .before .args .end) (c .before .before .before .before .pre .ended) _ (c .before .before .end2 .given .1))
+add-questions : tie.Need-add-questions
+add-questions c =
+    let s = c .before .before .before .before in
+    omega (arith, few-valid _ _ (s .args .end) (s .pre .ended) _ (c .before .before .end2 .given .1))
 
-with-answer-requires : tie.Need-with-answer-requires
-with-answer-requires c κs = omega (arith, few-valid _ _ (c .before .before .before .before .args .end) (c .before .before .before .before .pre .ended) _ (c .before .before .end2 .given .1))
+with-verdict-requires : tie.Need-with-verdict-requires
+with-verdict-requires c κs =
+    let s = c .before .before .before .before in
+    omega (arith, few-valid _ _ (s .args .end) (s .pre .ended) _ (c .before .before .end2 .given .1))
 
 enum-known-end-3 : tie.Need-enum-known-end-3
 enum-known-end-3 c = search needs
 
-with-answer-requires-2 : tie.Need-with-answer-requires-2
-with-answer-requires-2 c κs = omega (arith, few-refuted _ _ (c .before .before .before .args .end) (c .before .before .before .pre .ended) _ (c .before .end3 .given .1))
+with-verdict-requires-2 : tie.Need-with-verdict-requires-2
+with-verdict-requires-2 c κs =
+    let s = c .before .before .before in
+    omega (arith, few-refuted _ _ (s .args .end) (s .pre .ended) _ (c .before .end3 .given .1))
 
 returns : tie.Need-returns
-returns c = full-asked (c .before .before .before .args .s) (c .before .before .before .args .goal) _ _ (c .before .before .before .args .end) (c .before .before .before .pre .ended) _ (c .before .end .given .1)
+returns c =
+    let s = c .before .before .before in
+    full-asked (s .args .s) (s .args .goal) _ _ (s .args .end) (s .pre .ended) _ (c .before .end .given .1)
 
 returns-2 : tie.Need-returns-2
-returns-2 c = valid-asked (c .before .before .before .before .before .args .s) (c .before .before .before .before .before .args .goal) _ _ (c .before .before .before .before .before .args .end) (c .before .before .before .before .before .pre .ended) _ (c .before .before .before .end2 .given .1) _ (c .with-answer .ensures)
+returns-2 c =
+    let s = c .before .before .before .before .before in
+    valid-asked (s .args .s) (s .args .goal) _ _ (s .args .end) (s .pre .ended) _ (c .before .before .before .end2 .given .1) _ (c .with-verdict .ensures)
 
 returns-3 : tie.Need-returns-3
-returns-3 c = refuted-asked (c .before .before .before .before .args .s) (c .before .before .before .before .args .goal) _ _ (c .before .before .before .before .args .end) (c .before .before .before .before .pre .ended) _ (c .before .before .end3 .given .1) _ (c .with-answer2 .ensures)
+returns-3 c =
+    let s = c .before .before .before .before in
+    refuted-asked (s .args .s) (s .args .goal) _ _ (s .args .end) (s .pre .ended) _ (c .before .before .end3 .given .1) _ (c .with-verdict2 .ensures)
 
 pub conclude-spec : {M : Type 1} → statement M
 conclude-spec =
@@ -38,10 +50,10 @@ conclude-spec =
     (tie.spec
     enum-known-end
     enum-known-end-2
-    add-with-answer
-    with-answer-requires
+    add-questions
+    with-verdict-requires
     enum-known-end-3
-    with-answer-requires-2
+    with-verdict-requires-2
     returns
     returns-2
     returns-3)

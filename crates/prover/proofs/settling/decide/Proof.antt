@@ -1,15 +1,31 @@
 -- The tables are those of the session, and the search in them is the whole one.
-use Rattle.prover.proofs.Answers.{goal-zero, ended-whole}
+use mathlib.Core.Bool.{true}
+use mathlib.Core.Path.{_≡_}
+use Rattle.ipl.specs.Book.{goalRefusal}
+use Rattle.prover.specs.State.{book}
+use Rattle.prover.specs.InRange.{inRange}
+use Rattle.prover.proofs.Refusals.{number-zero}
+use Rattle.prover.proofs.Answers.{ended-whole}
 use Rattle.prover.proofs.Sessions.{usable, steps-fit, fresh}
 use borrow.Author.Needs.{needs}
 use Rattle.prover.proofs.settling.decide.Statement.{statement}
 use Rattle.prover.proofs.settling.decide.Tie as tie
 
+in-range : (c : tie.Start) → inRange (c .args .s) ≡ true
+in-range c = number-zero (c .args .s) (goalRefusal (book (c .args .s)) (c .args .goal)) (c .pre .unrefused) .0
+
 write-known-requires : tie.Need-write-known-requires
-write-known-requires c κs = steps-fit _ (goal-zero _ _ (c .before .before .before .before .before .before .before .before .before .before .pre .unrefused) .0) _ _ (c .before .before .before .before .before .before .before .before .before .before .pre .left-size) (c .before .before .before .before .before .before .before .before .before .before .pre .right-size)
+write-known-requires c κs =
+    let given = c .before .before .before .before .before .before .before .before .before .before in
+    steps-fit (given .args .s) (in-range given) _ _ (given .pre .left-rows) (given .pre .right-rows)
 
 proceed-requires : tie.Need-proceed-requires
-proceed-requires c κs = (usable _ (goal-zero _ _ (c .before .before .before .before .before .before .before .before .before .before .before .before .before .before .before .before .before .before .before .before .pre .unrefused) .0), fresh _ (goal-zero _ _ (c .before .before .before .before .before .before .before .before .before .before .before .before .before .before .before .before .before .before .before .before .pre .unrefused) .0) _ _ _ (c .before .before .before .before .before .before .before .before .before .before .before .before .before .before .before .before .before .before .before .before .pre .left-size) (c .before .before .before .before .before .before .before .before .before .before .before .before .before .before .before .before .before .before .before .before .pre .right-size) (c .before .before .before .before .before .before .before .before .before .before .before .before .before .before .before .before .before .before .before .before .pre .numbers-size) (c .before .before .before .before .before .before .before .before .before .before .before .before .before .before .before .before .before .before .before .before .pre .assumed-size) (c .before .before .before .before .before .before .before .before .before .before .before .before .before .before .before .before .before .before .before .before .pre .sets-size) (c .before .before .before .before .before .before .before .before .before .before .before .before .before .before .before .before .before .before .before .before .pre .numbers) (c .before .before .before .before .before .before .before .before .before .before .before .before .before .before .before .before .before .before .before .before .pre .assumed) (c .before .before .before .before .before .before .before .before .before .write-known .ensures (c .before .before .before .before .before .before .before .before .before .before .before .before .before .before .before .before .before .before .before .before .args .s .n) (usable (c .before .before .before .before .before .before .before .before .before .before .before .before .before .before .before .before .before .before .before .before .args .s) (goal-zero _ _ (c .before .before .before .before .before .before .before .before .before .before .before .before .before .before .before .before .before .before .before .before .pre .unrefused) .0))))
+proceed-requires c κs =
+    let written = c .before .before .before .before .before .before .before .before .before in
+    let given = written .before .before .before .before .before .before .before .before .before .before .before in
+    let s = given .args .s in
+    let u = usable s (in-range given) in
+    (u, fresh s (in-range given) _ (given .args .goal) (given .pre) _ _ (written .write-known .ensures (s .n) u))
 
 same-length : tie.Need-same-length
 same-length c = search needs
@@ -27,7 +43,13 @@ same-length-5 : tie.Need-same-length-5
 same-length-5 c = search needs
 
 returns : tie.Need-returns
-returns c = ended-whole (c .before .before .before .before .before .before .before .before .before .before .before .before .before .before .before .before .before .before .before .before .before .before .before .before .before .before .before .before .before .before .before .args .s) (c .before .before .before .before .before .before .before .before .before .before .before .before .before .before .before .before .before .before .before .before .before .before .before .before .before .before .before .before .before .before .before .args .goal) _ _ _ _ (c .before .before .before .before .before .before .before .before .before .before .proceed .result) ((c .before .before .before .before .before .before .before .before .before .before .before .before .before .before .before .before .before .before .before .before .write-known .ensures (c .before .before .before .before .before .before .before .before .before .before .before .before .before .before .before .before .before .before .before .before .before .before .before .before .before .before .before .before .before .before .before .args .s .n) (usable (c .before .before .before .before .before .before .before .before .before .before .before .before .before .before .before .before .before .before .before .before .before .before .before .before .before .before .before .before .before .before .before .args .s) (goal-zero _ _ (c .before .before .before .before .before .before .before .before .before .before .before .before .before .before .before .before .before .before .before .before .before .before .before .before .before .before .before .before .before .before .before .pre .unrefused) .0))) .flat-rows) (c .before .before .before .before .before .before .before .before .before .before .before .before .before .before .before .before .before .before .before .before .before .before .before .before .before .before .before .before .before .before .before .pre .numbers) (c .before .before .before .before .before .before .before .before .before .before .before .before .before .before .before .before .before .before .before .before .before .before .before .before .before .before .before .before .before .before .before .pre .assumed) (c .before .before .before .before .before .before .before .before .before .before .proceed .ensures)
+returns c =
+    let searched = c .before .before .before .before .before .before .before .before .before .before in
+    let written = searched .before .before .before .before .before .before .before .before .before .before in
+    let given = written .before .before .before .before .before .before .before .before .before .before .before in
+    let s = given .args .s in
+    ended-whole s (given .args .goal) _ _ _ _ (searched .proceed .result) (written .write-known .ensures (s .n) (usable s (in-range given)) .flat-rows)
+    (given .pre .numbers) (given .pre .assumed) (searched .proceed .ensures)
 
 pub decide-spec : {M : Type 1} → statement M
 decide-spec =

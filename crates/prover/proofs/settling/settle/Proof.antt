@@ -1,4 +1,8 @@
 -- The search's tables hold what is concluded from.
+use mathlib.Core.Path.{refl, sym}
+use Prim.Native.Nat.{_+_}
+use Rattle.atoms.proofs.Machine.{row-count-words}
+use Rattle.ipl.specs.Range.{flatTable, stepTable, worldTable}
 use borrow.Author.Needs.{needs}
 use Rattle.prover.proofs.settling.settle.Statement.{statement}
 use Rattle.prover.proofs.settling.settle.Tie as tie
@@ -19,7 +23,17 @@ slice-aggregate-decide-5 : tie.Need-slice-aggregate-decide-5
 slice-aggregate-decide-5 c = search needs
 
 decide-requires : tie.Need-decide-requires
-decide-requires c κs = search needs
+decide-requires c κs =
+    record {
+      unrefused = c .before .before .before .before .before .before .before .before .before .before .pre;
+      left-rows = row-count-words _ (flatTable + stepTable) (sym (slice-aggregate-decide (c .before .before .before .before)));
+      right-rows = row-count-words _ (flatTable + stepTable) (sym (slice-aggregate-decide-2 (c .before .before .before)));
+      numbers-size = sym (slice-aggregate-decide-3 (c .before .before));
+      assumed-rows = row-count-words _ stepTable (sym (slice-aggregate-decide-4 (c .before)));
+      set-rows = row-count-words _ worldTable (sym (slice-aggregate-decide-5 c));
+      numbers = refl;
+      assumed = refl;
+    }
 
 conclude-requires : tie.Need-conclude-requires
 conclude-requires c κs = record { left = _; right = _; ended = c .before .before .before .before .before .decide .ensures }

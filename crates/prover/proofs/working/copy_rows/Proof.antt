@@ -1,9 +1,8 @@
 -- The rows passed are copied.
-use mathlib.Core.Path.{refl, subst}
-use Prim.Native.Nat.{ℕ, _≤_, _-_}
-use Rattle.atoms.specs.Words.{RowSet}
+use mathlib.Core.Path.{refl}
+use Prim.Native.Nat.{_≤_, _-_}
 use Rattle.prover.specs.Working.{Copied}
-use Rattle.prover.proofs.Rows.{copied-more, copied-end}
+use Rattle.prover.proofs.Rows.{row-set-as, copied-more, copied-end}
 use borrow.Author.Needs.{needs}
 use native.Mathlib.Omega.{arith}
 use Rattle.prover.proofs.working.copy_rows.Statement.{statement}
@@ -32,8 +31,11 @@ loop-less c = omega arith
 
 loop-again : tie.Need-loop-again Inv-loop μ-loop
 loop-again c =
-    let l = c .before .before .before .before .before .before in
-    (omega arith, copied-more _ _ _ _ _ (l .loop .inv .1) (subst (λ (x : ℕ). RowSet (l .loop .to) (l .loop .i) x (c .before .before .set-row .last .0)) (c .before .before .before .row .ensures) (c .before .before .set-row .ensures)) (omega (arith, l .before .before .before .pre)))
+    let written = c .before .before in
+    let l = written .before .before .before .before in (
+      omega arith,
+      copied-more _ _ _ _ _ (l .loop .inv .1) (row-set-as (written .set-row .ensures) (written .before .row .ensures)) (omega (arith, l .before .before .before .pre)),
+    )
 
 same-length : tie.Need-same-length Inv-loop μ-loop
 same-length c = c .before .loop .inv .1 .size

@@ -11,7 +11,11 @@ copy-rows-requires-2 : tie.Need-copy-rows-requires-2
 copy-rows-requires-2 c κs = search needs
 
 write-steps-requires : tie.Need-write-steps-requires
-write-steps-requires c κs = fit-same _ _ _ _ _ _ _ (c .before .before .before .before .before .before .before .before .before .before .before .copy-rows .ensures .size) (c .before .before .before .before .copy-rows2 .ensures .size) (c .before .before .before .before .before .before .before .before .before .before .before .before .before .before .before .before .before .before .pre)
+write-steps-requires c κs =
+    let right = c .before .before .before .before in
+    let left = right .before .before .before .before .before .before .before in
+    let given = left .before .before .before .before .before .before .before in
+    fit-same _ _ _ _ _ _ _ (left .copy-rows .ensures .size) (right .copy-rows2 .ensures .size) (given .pre)
 
 same-length : tie.Need-same-length
 same-length c = search needs
@@ -20,7 +24,12 @@ same-length-2 : tie.Need-same-length-2
 same-length-2 c = search needs
 
 returns : tie.Need-returns
-returns c = known-written _ _ _ _ _ _ _ _ _ (c .before .before .before .before .before .before .before .before .before .before .before .before .before .before .before .before .before .before .before .before .before .before .before .pre) (c .before .before .before .before .before .before .before .before .before .before .before .before .before .before .before .before .copy-rows .ensures) (c .before .before .before .before .before .before .before .before .before .copy-rows2 .ensures) (c .before .before .before .before .write-steps .ensures)
+returns c =
+    let steps = c .before .before .before .before in
+    let right = steps .before .before .before .before .before in
+    let left = right .before .before .before .before .before .before .before in
+    let given = left .before .before .before .before .before .before .before in
+    known-written _ _ _ _ _ _ _ _ _ (given .pre) (left .copy-rows .ensures) (right .copy-rows2 .ensures) (steps .write-steps .ensures)
 
 pub write-known-spec : {M : Type 1} → statement M
 write-known-spec =

@@ -28,10 +28,12 @@ same-length-2 : tie.Need-same-length-2
 same-length-2 c = search needs
 
 returns : tie.Need-returns
-returns c = (
-  row-set-as (c .before .before .before .before .before .before .before .set-row .ensures) (c .before .before .before .before .before .before .before .before .without .ensures ∙ ap (minus _) (c .before .before .before .before .before .before .before .before .before .single .ensures)),
-  row-set-as (c .before .before .set-row2 .ensures) (c .before .before .before .single2 .ensures),
-)
+returns c =
+    let right = c .before .before in
+    let left = right .before .before .before .before .before in (
+      row-set-as (left .set-row .ensures) (left .before .without .ensures ∙ ap (minus _) (left .before .before .single .ensures)),
+      row-set-as (right .set-row2 .ensures) (right .before .single2 .ensures),
+    )
 
 pub write-learned-spec : {M : Type 1} → statement M
 write-learned-spec =

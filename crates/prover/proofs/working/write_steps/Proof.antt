@@ -1,6 +1,7 @@
 -- The clauses of the steps passed are written.
 use mathlib.Core.Path.{refl}
 use Prim.Native.Nat.{_≤_, _<_, _-_}
+use Rattle.ipl.specs.Range.{implicationTable}
 use Rattle.prover.specs.Working.{StepsWritten}
 use Rattle.prover.specs.State.{byteAt}
 use Rattle.prover.proofs.Rows.{steps-more, steps-end}
@@ -19,7 +20,7 @@ abbrev μ-loop : tie.MeasureT-loop
 place : (c : tie.In-loop Inv-loop μ-loop) → c .before .loop .k < c .before .before .before .before .args .t4 .count
 place c = omega arith
 
-number : (c : tie.In-loop Inv-loop μ-loop) → byteAt (c .before .before .before .before .args .t4 .numbers) (c .before .loop .k) < 128
+number : (c : tie.In-loop Inv-loop μ-loop) → byteAt (c .before .before .before .before .args .t4 .numbers) (c .before .loop .k) < implicationTable
 number c = let s = c .before .before .before .before in omega (arith, s .pre .numbers (c .before .loop .k) (place c), s .pre .implications)
 
 loop-holds : tie.Need-loop-holds Inv-loop μ-loop

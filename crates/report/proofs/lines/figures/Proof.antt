@@ -1,7 +1,7 @@
 -- One figure after the other.
-use Rattle.report.specs.Text.{ascii}
+use Rattle.text.specs.Text.{ascii}
 use Rattle.report.specs.Report.{figures}
-use Rattle.report.proofs.Appending.{both}
+use Rattle.text.proofs.Appending.{both}
 use borrow.Author.Needs.{needs}
 use Rattle.report.proofs.lines.figures.Statement.{statement}
 use Rattle.report.proofs.lines.figures.Tie as tie

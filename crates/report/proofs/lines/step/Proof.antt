@@ -1,7 +1,7 @@
 -- The implication number, then A.
-use Rattle.report.specs.Text.{ascii}
+use Rattle.text.specs.Text.{ascii}
 use Rattle.report.specs.Report.{stepLine}
-use Rattle.report.proofs.Appending.{both}
+use Rattle.text.proofs.Appending.{both}
 use borrow.Author.Needs.{needs}
 use Rattle.report.proofs.lines.step.Statement.{statement}
 use Rattle.report.proofs.lines.step.Tie as tie

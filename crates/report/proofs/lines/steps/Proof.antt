@@ -4,9 +4,10 @@ use Prim.Native.Nat.{ℕ, _≤_, _-_}
 use Rattle.ipl.specs.Lists.{tabulate}
 use Rattle.prover.specs.State.{stepRow}
 use Rattle.certificate.specs.Format.{each}
-use Rattle.report.specs.Output.{Appends}
+use Rattle.text.specs.Output.{Appends}
 use Rattle.report.specs.Report.{stepLine}
-use Rattle.report.proofs.Appending.{same-text, nothing, next-line, lines-full, lines-end}
+use Rattle.text.proofs.Appending.{same-text, nothing}
+use Rattle.report.proofs.Rows.{next-line, lines-full, lines-end}
 use borrow.Author.Needs.{needs}
 use native.Mathlib.Omega.{arith}
 use Rattle.report.proofs.lines.steps.Statement.{statement}
@@ -45,11 +46,13 @@ loop-less c = omega arith
 
 loop-again : tie.Need-loop-again Inv-loop μ-loop
 loop-again c =
-    let l = c .before .before .before .before .before .before .before .before .before .before .before .before .before .before in (
-      omega arith,
-      next-line stepLine (stepRow (l .before .before .args .t3)) (l .loop .i) (l .loop .inv .1)
-          (same-text (ap₂ (λ (n a : ℕ). stepLine (record { number = n; assumed = a })) (c .before .before .before .before .before .before .before .byte-at .ensures) (c .before .before .before .row .ensures)) (c .before .before .step .ensures)),
-    )
+    let stepped = c .before .before in
+    let assumed = stepped .before in
+    let numbered = assumed .before .before .before .before in
+    let tested = numbered .before .before .before .before .before .before in
+    let l = tested .before in
+    let line = ap₂ (λ (n a : ℕ). stepLine (record { number = n; assumed = a })) (numbered .byte-at .ensures) (assumed .row .ensures) in
+    (omega (arith, tested .loop-test .taken), next-line stepLine (stepRow (l .before .before .args .t3)) (l .loop .i) (l .loop .inv .1) (same-text line (stepped .step .ensures)))
 
 same-length-2 : tie.Need-same-length-2 Inv-loop μ-loop
 same-length-2 c = c .before .loop .inv .1 .size

@@ -1,7 +1,7 @@
 -- The world after its label.
-use Rattle.report.specs.Text.{ascii}
+use Rattle.text.specs.Text.{ascii}
 use Rattle.report.specs.Report.{worldLine}
-use Rattle.report.proofs.Appending.{both}
+use Rattle.text.proofs.Appending.{both}
 use borrow.Author.Needs.{needs}
 use Rattle.report.proofs.lines.world.Statement.{statement}
 use Rattle.report.proofs.lines.world.Tie as tie

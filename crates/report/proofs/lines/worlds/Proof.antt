@@ -4,9 +4,10 @@ use Prim.Native.Nat.{_≤_, _-_}
 use Rattle.atoms.specs.Words.{rowOf}
 use Rattle.ipl.specs.Lists.{tabulate}
 use Rattle.certificate.specs.Format.{each}
-use Rattle.report.specs.Output.{Appends}
+use Rattle.text.specs.Output.{Appends}
 use Rattle.report.specs.Report.{worldLine}
-use Rattle.report.proofs.Appending.{same-text, nothing, next-line, lines-full, lines-end}
+use Rattle.text.proofs.Appending.{same-text, nothing}
+use Rattle.report.proofs.Rows.{next-line, lines-full, lines-end}
 use borrow.Author.Needs.{needs}
 use native.Mathlib.Omega.{arith}
 use Rattle.report.proofs.lines.worlds.Statement.{statement}
@@ -26,7 +27,9 @@ same-length : tie.Need-same-length Inv-loop μ-loop
 same-length c = c .before .before .loop .inv .1 .size
 
 returns : tie.Need-returns Inv-loop μ-loop
-returns c = lines-full worldLine (rowOf (c .before .before .before .before .args .t3 .sets)) (c .before .before .loop .i) _ (c .before .before .loop .inv .0) (omega arith) (c .before .before .loop .inv .1)
+returns c =
+    let l = c .before .before in
+    lines-full worldLine (rowOf (l .before .before .args .t3 .sets)) (l .loop .i) _ (l .loop .inv .0) (omega arith) (l .loop .inv .1)
 
 row-requires : tie.Need-row-requires Inv-loop μ-loop
 row-requires c κs = search needs

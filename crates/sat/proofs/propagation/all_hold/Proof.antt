@@ -53,8 +53,8 @@ loop-again c =
 
 returns-2 : tie.Need-returns-2 Inv-loop μ-loop
 returns-2 c =
-    sym (subst (λ (k : ℕ). allHold (c .before .before .before .before .args .left .now) (c .before .before .before .before .args .right .now) (num (c .before .before .before .before .args .m)) k ≡ true)
-    (omega arith) (c .before .loop .inv .1))
+    let s = c .before .before .before .before .args in
+    sym (subst (λ (k : ℕ). allHold (s .left .now) (s .right .now) (num (s .m)) k ≡ true) (omega arith) (c .before .loop .inv .1))
 
 pub all-hold-spec : {M : Type 1} → statement M
 all-hold-spec =

@@ -2,10 +2,10 @@
 use borrow.Author.Needs.{needs}
 use mathlib.Core.Path.{sym, _∙_, subst}
 use native.Mathlib.Omega.{arith}
-use Prim.Native.Nat.{ℕ, suc, _+_, _-_, _^_, _≤_}
+use Prim.Native.Nat.{suc, _+_, _-_, _^_, _≤_}
 use Rattle.atoms.specs.Sets.{limit}
 use Rattle.atoms.specs.Words.{num}
-use Rattle.sat.specs.Table.{Holds, AllHold}
+use Rattle.sat.specs.Table.{AllHold}
 use Rattle.sat.specs.Knowledge.{Forces}
 use Rattle.sat.specs.declared.propagation.Forced.the-variants.{Known}
 use Rattle.sat.proofs.Table.{row-holds}
@@ -40,7 +40,8 @@ enum-told c = search needs
 returns : tie.Need-returns Inv-loop μ-loop
 returns c m e h =
     let u = c .before .before in
-    subst (Forces _ _) (c .enum-told .given .1) (u .unit .ensures) m (u .before .before .before .before .loop .inv .0 .keeps m e h) (row-holds _ _ m _ _ _ (u .before .before .row .ensures) (u .before .row2 .ensures) _ (omega arith) h)
+    subst (Forces _ _) (c .enum-told .given .1) (u .unit .ensures) m (u .before .before .before .before .loop .inv .0 .keeps m e h)
+    (row-holds _ _ m _ _ _ (u .before .before .row .ensures) (u .before .row2 .ensures) _ (omega arith) h)
 
 enum-known-s : tie.Need-enum-known-s Inv-loop μ-loop
 enum-known-s c = search needs
@@ -48,7 +49,10 @@ enum-known-s c = search needs
 -- What the clause adds.
 added : (c : tie.After-s Inv-loop μ-loop) → let l = c .before .before .before .before .before .before in let a = l .before .before .before .before .args in
     Forces (AllHold (a .left .now) (a .right .now) (a .count)) (l .loop .q) (Known (c .s .given .0 .0))
-added c = let u = c .before .before in grown-weaken _ _ (λ m h. row-holds _ _ m _ _ _ (u .before .before .row .ensures) (u .before .row2 .ensures) _ (omega arith) h) (subst (Forces _ _) (c .s .given .1) (u .unit .ensures))
+added c =
+    let u = c .before .before in
+    grown-weaken _ _ (λ m h. row-holds _ _ m _ _ _ (u .before .before .row .ensures) (u .before .row2 .ensures) _ (omega arith) h)
+    (subst (Forces _ _) (c .s .given .1) (u .unit .ensures))
 
 same-requires : tie.Need-same-requires Inv-loop μ-loop
 same-requires c κs = search needs

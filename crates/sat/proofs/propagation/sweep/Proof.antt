@@ -2,9 +2,8 @@
 use borrow.Author.Needs.{needs}
 use mathlib.Core.Path.{subst}
 use native.Mathlib.Omega.{arith}
-use Prim.Native.Nat.{ℕ, _-_}
-use Rattle.atoms.specs.Words.{num}
-use Rattle.sat.specs.Table.{Holds, AllHold}
+use Prim.Native.Nat.{_-_}
+use Rattle.sat.specs.Table.{AllHold}
 use Rattle.sat.specs.Knowledge.{Forces}
 use Rattle.sat.specs.declared.propagation.Forced.the-variants.{Known}
 use Rattle.sat.proofs.Table.{row-holds}
@@ -39,7 +38,8 @@ enum-told c = search needs
 returns : tie.Need-returns Inv-loop μ-loop
 returns c m e h =
     let u = c .before .before in
-    subst (Forces _ _) (c .enum-told .given .1) (u .unit .ensures) m (u .before .before .before .before .loop .inv .keeps m e h) (row-holds _ _ m _ _ _ (u .before .before .row .ensures) (u .before .row2 .ensures) _ (omega arith) h)
+    subst (Forces _ _) (c .enum-told .given .1) (u .unit .ensures) m (u .before .before .before .before .loop .inv .keeps m e h)
+    (row-holds _ _ m _ _ _ (u .before .before .row .ensures) (u .before .row2 .ensures) _ (omega arith) h)
 
 enum-known-s : tie.Need-enum-known-s Inv-loop μ-loop
 enum-known-s c = search needs
@@ -56,7 +56,9 @@ loop-less c = omega (arith, c .next-telling2 .ensures .after)
 loop-again : tie.Need-loop-again Inv-loop μ-loop
 loop-again c =
     let u = c .before .before .before .before in
-    grown-trans _ (u .before .before .before .before .loop .inv) (grown-weaken _ _ (λ m h. row-holds _ _ m _ _ _ (u .before .before .row .ensures) (u .before .row2 .ensures) _ (omega arith) h) (subst (Forces _ _) (c .before .before .s .given .1) (u .unit .ensures)))
+    grown-trans _ (u .before .before .before .before .loop .inv)
+    (grown-weaken _ _ (λ m h. row-holds _ _ m _ _ _ (u .before .before .row .ensures) (u .before .row2 .ensures) _ (omega arith) h)
+    (subst (Forces _ _) (c .before .before .s .given .1) (u .unit .ensures)))
 
 returns-2 : tie.Need-returns-2 Inv-loop μ-loop
 returns-2 c = c .before .loop .inv

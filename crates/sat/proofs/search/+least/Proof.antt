@@ -34,20 +34,40 @@ abbrev least-below : ℕ → In 1 least-kinds.ps
 least-below t = and 1 least-kinds.ps (falls 1 least-kinds.ps _<_ μ-least t) least.Pre
 
 abbrev claims : ℕ → least-lts.Claims
-claims t = (descend-reads.Asked, descend-reads.Learnt, lacking-reads.Asked, lacking-reads.Learnt, least-below t, least.Post, meets-reads.Asked, meets-reads.Learnt, having-reads.Asked, having-reads.Learnt, both-reads.Asked, both-reads.Learnt, forgetting-reads.Asked, forgetting-reads.Learnt)
+claims t = (
+  descend-reads.Asked,
+  descend-reads.Learnt,
+  lacking-reads.Asked,
+  lacking-reads.Learnt,
+  least-below t,
+  least.Post,
+  meets-reads.Asked,
+  meets-reads.Learnt,
+  having-reads.Asked,
+  having-reads.Learnt,
+  both-reads.Asked,
+  both-reads.Learnt,
+  forgetting-reads.Asked,
+  forgetting-reads.Learnt,
+)
 
 -- How the step cuts, and where it stood.
-cut : (t : ℕ) (c : least-lts.After-q (claims t) (least-at t) least.Post) → Cut (AllHold (c .before .before .before .before .before .args .left .now) (c .before .before .before .before .before .args .right .now) (c .before .before .before .before .before .args .count)) (c .before .before .before .before .before .args .known) (c .q .given .0 .0) (num (c .q .given .0 .1 .0))
+cut : (t : ℕ) (c : least-lts.After-q (claims t) (least-at t) least.Post) → let a = c .before .before .before .before .before .args in
+    Cut (AllHold (a .left .now) (a .right .now) (a .count)) (a .known) (c .q .given .0 .0) (num (c .q .given .0 .1 .0))
 cut t c = subst (Steps _ _ _ _) (c .q .given .1) (c .before .before .descend .ensures)
 
-node : (t : ℕ) (c : least-lts.After-q (claims t) (least-at t) least.Post) → Node (AllHold (c .before .before .before .before .before .args .left .now) (c .before .before .before .before .before .args .right .now) (c .before .before .before .before .before .args .count)) (c .before .before .before .before .before .args .base) (c .before .before .before .before .before .args .decided) (c .before .before .before .before .before .args .known)
+node : (t : ℕ) (c : least-lts.After-q (claims t) (least-at t) least.Post) → let a = c .before .before .before .before .before .args in
+    Node (AllHold (a .left .now) (a .right .now) (a .count)) (a .base) (a .decided) (a .known)
 node t c = c .before .before .before .before .before .pre .1
 
 -- What the false side rests on, and the true side.
-first : (t : ℕ) (c : least-lts.After-r (claims t) (least-at t) least.Post) → Blocks (AllHold (c .before .before .before .before .before .before .before .before .before .before .before .args .left .now) (c .before .before .before .before .before .before .before .before .before .before .before .args .right .now) (c .before .before .before .before .before .before .before .before .before .before .before .args .count)) (c .before .before .before .before .before .before .before .before .before .before .before .args .base) (c .r .given .0 .0) × Part (c .r .given .0 .0) (c .before .before .before .lacking2 .result)
+first : (t : ℕ) (c : least-lts.After-r (claims t) (least-at t) least.Post) → let a = c .before .before .before .before .before .before .before .before .before .before .before .args in
+    Blocks (AllHold (a .left .now) (a .right .now) (a .count)) (a .base) (c .r .given .0 .0) × Part (c .r .given .0 .0) (c .before .before .before .lacking2 .result)
 first t c = subst (Answers _ _ _ _) (c .r .given .1) (c .before .before .least .ensures)
 
-second : (t : ℕ) (c : least-lts.After-s (claims t) (least-at t) least.Post) → Blocks (AllHold (c .before .before .before .before .before .before .before .before .before .before .before .before .before .before .before .before .before .before .before .args .left .now) (c .before .before .before .before .before .before .before .before .before .before .before .before .before .before .before .before .before .before .before .args .right .now) (c .before .before .before .before .before .before .before .before .before .before .before .before .before .before .before .before .before .before .before .args .count)) (c .before .before .before .before .before .before .before .before .before .before .before .before .before .before .before .before .before .before .before .args .base) (c .s .given .0 .0) × Part (c .s .given .0 .0) (c .before .before .before .having2 .result)
+second : (t : ℕ) (c : least-lts.After-s (claims t) (least-at t) least.Post) → let r = c .before .before .before .before .before .before .before .before in
+    let a = r .before .before .before .before .before .before .before .before .before .before .before .args in
+    Blocks (AllHold (a .left .now) (a .right .now) (a .count)) (a .base) (c .s .given .0 .0) × Part (c .s .given .0 .0) (c .before .before .before .having2 .result)
 second t c = subst (Answers _ _ _ _) (c .s .given .1) (c .before .before .least2 .ensures)
 
 descend-requires : (t : ℕ) → least-lts.Need-descend-requires (claims t) (least-at t) least.Post
@@ -68,7 +88,8 @@ lacking-requires-2 t c κs = search needs
 least-requires : (t : ℕ) → least-lts.Need-least-requires (claims t) (least-at t) least.Post
 least-requires t c κs =
     let q = c .before .before .before in (
-      room (2 ^ suc limit) _ _ _ (false-room _ _ _ _ _ _ (node t q) (cut t q) _ _ (c .before .lacking .ensures) (c .lacking2 .ensures)) (proper-room _ _ (node t q .fair)) (q .before .before .before .before .before .pre .0),
+      room (2 ^ suc limit) _ _ _ (false-room _ _ _ _ _ _ (node t q) (cut t q) _ _ (c .before .lacking .ensures) (c .lacking2 .ensures))
+          (proper-room _ _ (node t q .fair)) (q .before .before .before .before .before .pre .0),
       false-node _ _ _ _ _ _ (node t q) (cut t q) _ _ (c .before .lacking .ensures) (c .lacking2 .ensures),
     )
 
@@ -100,7 +121,8 @@ having-requires-2 t c κs = search needs
 least-requires-2 : (t : ℕ) → least-lts.Need-least-requires-2 (claims t) (least-at t) least.Post
 least-requires-2 t c κs =
     let q = c .before .before .before .before .before .before .before .before .before .before .before in (
-      room (2 ^ suc limit) _ _ _ (true-room _ _ _ _ _ _ (node t q) (cut t q) _ _ (c .before .having .ensures) (c .having2 .ensures)) (proper-room _ _ (node t q .fair)) (q .before .before .before .before .before .pre .0),
+      room (2 ^ suc limit) _ _ _ (true-room _ _ _ _ _ _ (node t q) (cut t q) _ _ (c .before .having .ensures) (c .having2 .ensures))
+          (proper-room _ _ (node t q .fair)) (q .before .before .before .before .before .pre .0),
       true-node _ _ _ _ _ _ (node t q) (cut t q) _ _ (c .before .having .ensures) (c .having2 .ensures),
     )
 
@@ -156,7 +178,8 @@ returns-6 t c =
     let r = h .before .before .before .before .before in
     let l = r .before .before .before in
     let q = l .before .before .before in (
-      both-blocked _ _ _ _ _ _ (node t q) (cut t q) _ _ _ _ (c .before .both .ensures) (c .forgetting .ensures) _ _ (l .lacking2 .ensures) (h .having2 .ensures) (first t r .1) (second t s .1) (first t r .0) (second t s .0),
+      both-blocked _ _ _ _ _ _ (node t q) (cut t q) _ _ _ _ (c .before .both .ensures) (c .forgetting .ensures) _ _ (l .lacking2 .ensures) (h .having2 .ensures)
+          (first t r .1) (second t s .1) (first t r .0) (second t s .0),
       both-part _ _ _ _ _ _ (node t q) (cut t q) _ _ _ _ (c .before .both .ensures) (c .forgetting .ensures) _ _ (l .lacking2 .ensures) (h .having2 .ensures) (first t r .1) (second t s .1),
     )
 

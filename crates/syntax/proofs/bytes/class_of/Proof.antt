@@ -6,7 +6,8 @@ use mathlib.Core.Path.{_≡_}
 use Prim.Native.Nat.{ℕ, _<_}
 use lib.Dec.{eqb, eqb→eq}
 use lib.ListN.{getD}
-use Rattle.syntax.specs.Class.{classOf, codeOf}
+use Rattle.syntax.specs.Class.{classOf}
+use Rattle.syntax.specs.Code.{codeOf}
 use Rattle.syntax.proofs.Entries.{at}
 use Rattle.syntax.proofs.bytes.class_of.Statement.{statement}
 use Rattle.syntax.proofs.bytes.class_of.Tie as tie

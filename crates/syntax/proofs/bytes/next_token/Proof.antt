@@ -29,7 +29,10 @@ add-t9 : tie.Need-add-t9 Inv-loop μ-loop
 add-t9 c = search needs
 
 returns : tie.Need-returns Inv-loop μ-loop
-returns c = token-found _ _ _ (c .before .before .before .before .loop .inv .0) (c .before .before .before .before .loop .inv .2) _ (c .before .before .before .loop-test .taken) (c .before .class-of .ensures) (c .if1 .taken)
+returns c =
+    let in-loop = c .before .before .before in
+    let inv = in-loop .before .loop .inv in
+    token-found _ _ _ (inv .0) (inv .2) _ (in-loop .loop-test .taken) (c .before .class-of .ensures) (c .if1 .taken)
 
 add-i : tie.Need-add-i Inv-loop μ-loop
 add-i c = search needs
@@ -38,7 +41,10 @@ loop-less : tie.Need-loop-less Inv-loop μ-loop
 loop-less c = search needs
 
 loop-again : tie.Need-loop-again Inv-loop μ-loop
-loop-again c = (omega arith, omega arith, sym (rest-blank _ _ (c .before .before .before .loop-test .taken) (sym (c .before .class-of .ensures) ∙ c .if1 .left)) ∙ c .before .before .before .before .loop .inv .2)
+loop-again c =
+    let in-loop = c .before .before .before in
+    let blank = rest-blank _ _ (in-loop .loop-test .taken) (sym (c .before .class-of .ensures) ∙ c .if1 .left) in
+    (omega arith, omega arith, sym blank ∙ in-loop .before .loop .inv .2)
 
 returns-2 : tie.Need-returns-2 Inv-loop μ-loop
 returns-2 c = token-none _ _ _ (c .before .loop .inv .0) (c .before .loop .inv .2) (c .before .loop .inv .1) (c .loop-test .left)

@@ -1,5 +1,5 @@
 -- The cycle of calls of the reader functions: the bytes left fall. Each answer cites a law of Operand.
-use mathlib.Core.Path.{_≡_, refl, _∙_}
+use mathlib.Core.Path.{refl, _∙_}
 use Prim.Native.Nat.{ℕ, _+_, _-_, _*_, _<_}
 use lib.ListN.{length}
 use borrow.Fn.Kinds.{In}
@@ -7,10 +7,13 @@ use borrow.Fn.PlainCycle.{Measures, is, falls, and}
 use native.Mathlib.Omega.{arith}
 use Rattle.syntax.specs.Scan.{move}
 use Rattle.syntax.specs.Grammar.{Level}
-use Rattle.syntax.specs.Descent.{rest, headCode, Operand}
+use Rattle.syntax.specs.Class.{ampersand}
+use Rattle.syntax.specs.Code.{codeOf}
+use Rattle.syntax.specs.Descent.{rest, NotNext, Operand}
 use Rattle.syntax.specs.declared.Parts.{Parts}
 use Rattle.syntax.proofs.Position.{token-forward}
-use Rattle.syntax.proofs.Operand.{wanted-after, wanted-not, wanted-inside, operand-class, joined-and, joined-or, joined-implies, joined-equal, single-and, single-or, single-implies, negated, parenthesized, falsum-read, letter-read}
+use Rattle.syntax.proofs.Operand.{wanted-after, wanted-side, wanted-not, wanted-inside, operand-class, joined-and, joined-or, joined-sides}
+use Rattle.syntax.proofs.Operand.{single-and, single-or, single-implies, negated, parenthesized, leaf-read}
 use Rattle.syntax.proofs.descent.conjunction.Reads as conjunction
 use Rattle.syntax.proofs.descent.conjunction.Kinds as conjunction-kinds
 use Rattle.syntax.proofs.descent.+conjunction+disjunction+implication+negation.Lts-conjunction as conjunction-lts
@@ -25,8 +28,8 @@ use Rattle.syntax.proofs.descent.negation.Kinds as negation-kinds
 use Rattle.syntax.proofs.descent.+conjunction+disjunction+implication+negation.Lts-negation as negation-lts
 use Rattle.syntax.proofs.bytes.next_token.Reads as next-token-reads
 use Rattle.syntax.proofs.table.compound.Reads as compound-reads
-use Rattle.syntax.proofs.table.equivalence.Reads as equivalence-reads
-use Rattle.syntax.proofs.table.leaf.Reads as leaf-reads
+use Rattle.syntax.proofs.descent.joined.Reads as joined-reads
+use Rattle.syntax.proofs.descent.leaf.Reads as leaf-reads
 use Rattle.syntax.proofs.table.negation.Reads as negation-reads
 use Rattle.syntax.proofs.descent.+conjunction+disjunction+implication+negation.{statement}
 use Rattle.syntax.proofs.descent.+conjunction+disjunction+implication+negation.Tie.{close}
@@ -81,10 +84,30 @@ abbrev disjunction-claims : ℕ → disjunction-lts.Claims
 disjunction-claims t = (conjunction-below t, conjunction.Post, next-token-reads.Asked, next-token-reads.Learnt, compound-reads.Asked, compound-reads.Learnt)
 
 abbrev implication-claims : ℕ → implication-lts.Claims
-implication-claims t = (disjunction-below t, disjunction.Post, next-token-reads.Asked, next-token-reads.Learnt, implication-below t, implication.Post, compound-reads.Asked, compound-reads.Learnt, equivalence-reads.Asked, equivalence-reads.Learnt)
+implication-claims t = (
+  disjunction-below t,
+  disjunction.Post,
+  next-token-reads.Asked,
+  next-token-reads.Learnt,
+  implication-below t,
+  implication.Post,
+  joined-reads.Asked,
+  joined-reads.Learnt,
+)
 
 abbrev negation-claims : ℕ → negation-lts.Claims
-negation-claims t = (next-token-reads.Asked, next-token-reads.Learnt, negation-below t, negation.Post, negation-reads.Asked, negation-reads.Learnt, implication-below t, implication.Post, leaf-reads.Asked, leaf-reads.Learnt)
+negation-claims t = (
+  next-token-reads.Asked,
+  next-token-reads.Learnt,
+  negation-below t,
+  negation.Post,
+  negation-reads.Asked,
+  negation-reads.Learnt,
+  implication-below t,
+  implication.Post,
+  leaf-reads.Asked,
+  leaf-reads.Learnt,
+)
 
 abbrev conjunction-Inv-loop : conjunction-lts.InvT-loop
 conjunction-Inv-loop s at left₀ left = (p : Parts) → Operand Level.negation s at p left₀ → Operand Level.conjunction s at p left
@@ -102,16 +125,20 @@ conjunction-next-token-requires : (t : ℕ) → conjunction-lts.Need-next-token-
 conjunction-next-token-requires t c κs = c .loop .inv _ (c .before .negation .ensures .operand) .inside
 
 conjunction-returns : (t : ℕ) → conjunction-lts.Need-returns (conjunction-claims t) (conjunction-at t) conjunction.Post conjunction-Inv-loop conjunction-μ-loop
+unfolding codeOf
 conjunction-returns t c = let l = c .before .before .before in
     record { operand = l .loop .inv _ (l .before .negation .ensures .operand); stops = λ e. c .if1 .taken (c .before .before .next-token .ensures .class-is ∙ e) }
 
 conjunction-negation-requires-2 : (t : ℕ) → conjunction-lts.Need-negation-requires-2 (conjunction-claims t) (conjunction-at t) conjunction.Post conjunction-Inv-loop conjunction-μ-loop
 unfolding move
-conjunction-negation-requires-2 t c κs = let l = c .before .before .before in
-    let x = l .loop .inv _ (l .before .negation .ensures .operand) in
+conjunction-negation-requires-2 t c κs =
+    let at-loop = c .before .before .before in
+    let x = at-loop .loop .inv _ (at-loop .before .negation .ensures .operand) in
     let k = c .before .before .next-token .ensures in
-    let pre = l .before .before .before .pre in
-    (omega (arith, x .forward, token-forward _ _ _ k 2 (c .if1 .left) (omega arith), k .inside, pre .0), record { wanted = wanted-after _ _ (pre .1 .wanted) x _ k 2 (λ d. refl) (omega arith) (c .if1 .left); sound = x .holds .sound })
+    let asked = at-loop .before .before .before .pre in (
+      omega (arith, x .forward, token-forward _ _ _ k 2 (c .if1 .left) (omega arith), k .inside, asked .0),
+      record { wanted = wanted-after _ _ (asked .1 .wanted) x _ k 2 (λ d. refl) (omega arith) (c .if1 .left); sound = x .holds .sound },
+    )
 
 conjunction-compound-requires : (t : ℕ) → conjunction-lts.Need-compound-requires (conjunction-claims t) (conjunction-at t) conjunction.Post conjunction-Inv-loop conjunction-μ-loop
 conjunction-compound-requires t c κs = c .negation2 .ensures .operand .holds .sound
@@ -121,10 +148,14 @@ conjunction-loop-less t c = let y = c .before .negation2 .ensures .operand in
     omega (arith, c .compound .ensures .0, y .forward, y .inside, token-forward _ _ _ (c .before .before .before .before .next-token .ensures) 2 (c .before .before .if1 .left) (omega arith))
 
 conjunction-loop-again : (t : ℕ) → conjunction-lts.Need-loop-again (conjunction-claims t) (conjunction-at t) conjunction.Post conjunction-Inv-loop conjunction-μ-loop
-conjunction-loop-again t c = λ p o. joined-and _ _ p _ _ _ _ (c .before .before .before .before .before .loop .inv p o) (c .before .before .before .before .next-token .ensures) (c .before .before .if1 .left) (c .before .negation2 .ensures .operand) (c .compound .ensures .0) (c .compound .ensures .1)
+conjunction-loop-again t c =
+    let test = c .before .before in
+    let at-loop = test .before .before .before in
+    λ p o. joined-and _ _ p _ _ _ _ (at-loop .loop .inv p o) (test .before .before .next-token .ensures) (test .if1 .left)
+    (c .before .negation2 .ensures .operand) (c .compound .ensures .0) (c .compound .ensures .1)
 
 abbrev disjunction-Inv-loop : disjunction-lts.InvT-loop
-disjunction-Inv-loop s at left₀ left = ((p : Parts) → Operand Level.conjunction s at p left₀ → Operand Level.disjunction s at p left) × (headCode (rest s (left .next)) ≡ 2 → ⊥)
+disjunction-Inv-loop s at left₀ left = ((p : Parts) → Operand Level.conjunction s at p left₀ → Operand Level.disjunction s at p left) × NotNext ampersand (rest s (left .next))
 
 abbrev disjunction-μ-loop : disjunction-lts.MeasureT-loop
 disjunction-μ-loop s at left₀ left = length s - left .next
@@ -139,16 +170,20 @@ disjunction-next-token-requires : (t : ℕ) → disjunction-lts.Need-next-token-
 disjunction-next-token-requires t c κs = c .loop .inv .0 _ (c .before .conjunction .ensures .operand) .inside
 
 disjunction-returns : (t : ℕ) → disjunction-lts.Need-returns (disjunction-claims t) (disjunction-at t) disjunction.Post disjunction-Inv-loop disjunction-μ-loop
+unfolding codeOf
 disjunction-returns t c = let l = c .before .before .before in
     record { operand = l .loop .inv .0 _ (l .before .conjunction .ensures .operand); stops = (l .loop .inv .1, λ e. c .if1 .taken (c .before .before .next-token .ensures .class-is ∙ e)) }
 
 disjunction-conjunction-requires-2 : (t : ℕ) → disjunction-lts.Need-conjunction-requires-2 (disjunction-claims t) (disjunction-at t) disjunction.Post disjunction-Inv-loop disjunction-μ-loop
 unfolding move
-disjunction-conjunction-requires-2 t c κs = let l = c .before .before .before in
-    let x = l .loop .inv .0 _ (l .before .conjunction .ensures .operand) in
+disjunction-conjunction-requires-2 t c κs =
+    let at-loop = c .before .before .before in
+    let x = at-loop .loop .inv .0 _ (at-loop .before .conjunction .ensures .operand) in
     let k = c .before .before .next-token .ensures in
-    let pre = l .before .before .before .pre in
-    (omega (arith, x .forward, token-forward _ _ _ k 3 (c .if1 .left) (omega arith), k .inside, pre .0), record { wanted = wanted-after _ _ (pre .1 .wanted) x _ k 3 (λ d. refl) (omega arith) (c .if1 .left); sound = x .holds .sound })
+    let asked = at-loop .before .before .before .pre in (
+      omega (arith, x .forward, token-forward _ _ _ k 3 (c .if1 .left) (omega arith), k .inside, asked .0),
+      record { wanted = wanted-after _ _ (asked .1 .wanted) x _ k 3 (λ d. refl) (omega arith) (c .if1 .left); sound = x .holds .sound },
+    )
 
 disjunction-compound-requires : (t : ℕ) → disjunction-lts.Need-compound-requires (disjunction-claims t) (disjunction-at t) disjunction.Post disjunction-Inv-loop disjunction-μ-loop
 disjunction-compound-requires t c κs = c .conjunction2 .ensures .operand .holds .sound
@@ -158,7 +193,13 @@ disjunction-loop-less t c = let y = c .before .conjunction2 .ensures .operand in
     omega (arith, c .compound .ensures .0, y .forward, y .inside, token-forward _ _ _ (c .before .before .before .before .next-token .ensures) 3 (c .before .before .if1 .left) (omega arith))
 
 disjunction-loop-again : (t : ℕ) → disjunction-lts.Need-loop-again (disjunction-claims t) (disjunction-at t) disjunction.Post disjunction-Inv-loop disjunction-μ-loop
-disjunction-loop-again t c = (λ p o. joined-or _ _ p _ _ _ _ (c .before .before .before .before .before .loop .inv .0 p o) (c .before .before .before .before .next-token .ensures) (c .before .before .if1 .left) (c .before .conjunction2 .ensures .operand) (c .compound .ensures .0) (c .compound .ensures .1), rw (c .compound .ensures .0) (c .before .conjunction2 .ensures .stops))
+disjunction-loop-again t c =
+    let test = c .before .before in
+    let at-loop = test .before .before .before in (
+      λ p o. joined-or _ _ p _ _ _ _ (at-loop .loop .inv .0 p o) (test .before .before .next-token .ensures) (test .if1 .left)
+          (c .before .conjunction2 .ensures .operand) (c .compound .ensures .0) (c .compound .ensures .1),
+      rw (c .compound .ensures .0) (c .before .conjunction2 .ensures .stops),
+    )
 
 implication-disjunction-requires : (t : ℕ) → implication-lts.Need-disjunction-requires (implication-claims t) (implication-at t) implication.Post
 implication-disjunction-requires t c κs = (omega (arith, c .before .pre .0), c .before .pre .1)
@@ -167,79 +208,100 @@ implication-next-token-requires : (t : ℕ) → implication-lts.Need-next-token-
 implication-next-token-requires t c κs = c .disjunction .ensures .operand .inside
 
 implication-implication-requires : (t : ℕ) → implication-lts.Need-implication-requires (implication-claims t) (implication-at t) implication.Post
-unfolding move
-implication-implication-requires t c κs = let x = c .before .before .before .disjunction .ensures .operand in
-    let k = c .before .before .next-token .ensures in
-    let pre = c .before .before .before .before .before .pre in
-    (omega (arith, x .forward, token-forward _ _ _ k 4 (c .if1 .taken) (omega arith), k .inside, pre .0), record { wanted = wanted-after _ _ (pre .1 .wanted) x _ k 4 (λ d. refl) (omega arith) (c .if1 .taken); sound = x .holds .sound })
+implication-implication-requires t c κs =
+    let token = c .before .before .before .before in
+    let x = token .before .disjunction .ensures .operand in
+    let k = token .next-token .ensures in
+    let asked = token .before .before .before .pre in
+    let least = c .before .before .if1 .left in (
+      omega (arith, x .forward, k .forward (omega arith), k .inside, asked .0),
+      record { wanted = wanted-side _ _ (asked .1 .wanted) x _ k least (c .if2 .taken); sound = x .holds .sound },
+    )
 
-implication-compound-requires : (t : ℕ) → implication-lts.Need-compound-requires (implication-claims t) (implication-at t) implication.Post
-implication-compound-requires t c κs = c .implication .ensures .operand .holds .sound
+implication-joined-requires : (t : ℕ) → implication-lts.Need-joined-requires (implication-claims t) (implication-at t) implication.Post
+implication-joined-requires t c κs = c .implication .ensures .operand .holds .sound
 
 implication-returns : (t : ℕ) → implication-lts.Need-returns (implication-claims t) (implication-at t) implication.Post
-implication-returns t c = let y = c .before .implication .ensures in
-    record { operand = joined-implies _ _ _ _ _ _ _ (c .before .before .before .before .before .disjunction .ensures .operand) (c .before .before .before .before .next-token .ensures) (c .before .before .if1 .taken) (y .operand) (c .compound .ensures .0) (c .compound .ensures .1); stops = rw (c .compound .ensures .0) (y .stops) }
-
-implication-implication-requires-2 : (t : ℕ) → implication-lts.Need-implication-requires-2 (implication-claims t) (implication-at t) implication.Post
-unfolding move
-implication-implication-requires-2 t c κs = let x = c .before .before .before .before .before .disjunction .ensures .operand in
-    let k = c .before .before .before .before .next-token .ensures in
-    let pre = c .before .before .before .before .before .before .before .pre in
-    (omega (arith, x .forward, token-forward _ _ _ k 5 (c .if2 .taken) (omega arith), k .inside, pre .0), record { wanted = wanted-after _ _ (pre .1 .wanted) x _ k 5 (λ d. refl) (omega arith) (c .if2 .taken); sound = x .holds .sound })
-
-implication-equivalence-requires : (t : ℕ) → implication-lts.Need-equivalence-requires (implication-claims t) (implication-at t) implication.Post
-implication-equivalence-requires t c κs = c .implication2 .ensures .operand .holds .sound
+implication-returns t c =
+    let y = c .before .implication .ensures in
+    let test = c .before .before in
+    let token = test .before .before .before .before in
+    record {
+      operand = joined-sides _ _ _ _ _ _ _ (token .before .disjunction .ensures .operand) (token .next-token .ensures) (test .before .before .if1 .left) (test .if2 .taken)
+          (y .operand) (c .joined .ensures .0) (c .joined .ensures .1);
+      stops = rw (c .joined .ensures .0) (y .stops);
+    }
 
 implication-returns-2 : (t : ℕ) → implication-lts.Need-returns-2 (implication-claims t) (implication-at t) implication.Post
-implication-returns-2 t c = let y = c .before .implication2 .ensures in
-    record { operand = joined-equal _ _ _ _ _ _ _ (c .before .before .before .before .before .before .before .disjunction .ensures .operand) (c .before .before .before .before .before .before .next-token .ensures) (c .before .before .if2 .taken) (y .operand) (c .equivalence .ensures .0) (c .equivalence .ensures .1); stops = rw (c .equivalence .ensures .0) (y .stops) }
+implication-returns-2 t c =
+    let token = c .before .before in
+    single-implies _ _ _ _ _ (token .before .disjunction .ensures) (token .next-token .ensures) (λ e. omega (arith, c .if1 .taken)) (λ e. omega (arith, c .if1 .taken))
 
 implication-returns-3 : (t : ℕ) → implication-lts.Need-returns-3 (implication-claims t) (implication-at t) implication.Post
-implication-returns-3 t c = let x = c .before .before .before .before .before .disjunction .ensures in
-    let k = c .before .before .before .before .next-token .ensures in
-    record { operand = single-implies _ _ _ _ (x .operand); stops = (x .stops .0, x .stops .1, λ e. c .before .before .if1 .left (k .class-is ∙ e), λ e. c .if2 .left (k .class-is ∙ e)) }
+implication-returns-3 t c =
+    let token = c .before .before .before .before in
+    single-implies _ _ _ _ _ (token .before .disjunction .ensures) (token .next-token .ensures) (λ e. omega (arith, c .if2 .left)) (λ e. omega (arith, c .if2 .left))
 
 negation-next-token-requires : (t : ℕ) → negation-lts.Need-next-token-requires (negation-claims t) (negation-at t) negation.Post
 negation-next-token-requires t c κs = c .before .pre .1 .wanted .inside
 
 negation-negation-requires : (t : ℕ) → negation-lts.Need-negation-requires (negation-claims t) (negation-at t) negation.Post
-negation-negation-requires t c κs = let k = c .before .before .next-token .ensures in
-    let pre = c .before .before .before .before .pre in
-    (omega (arith, token-forward _ _ _ k 7 (c .if1 .taken) (omega arith), k .inside, pre .0), record { wanted = wanted-not _ _ _ k (pre .1 .wanted) (c .if1 .taken); sound = pre .1 .sound })
+negation-negation-requires t c κs =
+    let k = c .before .before .next-token .ensures in
+    let asked = c .before .before .before .before .pre in (
+      omega (arith, token-forward _ _ _ k 7 (c .if1 .taken) (omega arith), k .inside, asked .0),
+      record { wanted = wanted-not _ _ _ k (asked .1 .wanted) (c .if1 .taken); sound = asked .1 .sound },
+    )
 
 negation-negation-requires-2 : (t : ℕ) → negation-lts.Need-negation-requires-2 (negation-claims t) (negation-at t) negation.Post
 negation-negation-requires-2 t c κs = c .negation .ensures .operand .holds .sound
 
 negation-returns : (t : ℕ) → negation-lts.Need-returns (negation-claims t) (negation-at t) negation.Post
-negation-returns t c = record { operand = negated _ _ _ _ (c .before .before .before .before .next-token .ensures) _ _ (c .before .before .if1 .taken) (c .before .negation .ensures .operand) (c .negation2 .ensures .0) (c .negation2 .ensures .1); stops = tt }
+negation-returns t c =
+    let test = c .before .before in
+    record {
+      operand = negated _ _ _ _ (test .before .before .next-token .ensures) _ _ (test .if1 .taken) (c .before .negation .ensures .operand)
+          (c .negation2 .ensures .0) (c .negation2 .ensures .1);
+      stops = tt;
+    }
 
 negation-implication-requires : (t : ℕ) → negation-lts.Need-implication-requires (negation-claims t) (negation-at t) negation.Post
-negation-implication-requires t c κs = let k = c .before .before .before .before .next-token .ensures in
-    let pre = c .before .before .before .before .before .before .pre in
-    (omega (arith, token-forward _ _ _ k 8 (c .if2 .taken) (omega arith), k .inside, pre .0), record { wanted = wanted-inside _ _ _ k (pre .1 .wanted) (c .if2 .taken); sound = pre .1 .sound })
+negation-implication-requires t c κs =
+    let token = c .before .before .before .before in
+    let k = token .next-token .ensures in
+    let asked = token .before .before .pre in (
+      omega (arith, token-forward _ _ _ k 8 (c .if2 .taken) (omega arith), k .inside, asked .0),
+      record { wanted = wanted-inside _ _ _ k (asked .1 .wanted) (c .if2 .taken); sound = asked .1 .sound },
+    )
 
 negation-next-token-requires-2 : (t : ℕ) → negation-lts.Need-next-token-requires-2 (negation-claims t) (negation-at t) negation.Post
 negation-next-token-requires-2 t c κs = c .implication .ensures .operand .inside
 
 negation-returns-2 : (t : ℕ) → negation-lts.Need-returns-2 (negation-claims t) (negation-at t) negation.Post
-negation-returns-2 t c = let y = c .before .before .implication .ensures in
-    record { operand = parenthesized _ _ _ _ (c .before .before .before .before .before .before .before .next-token .ensures) _ _ (c .before .before .before .before .before .before .before .before .before .pre .1 .wanted) (c .before .before .before .if2 .taken) (y .operand) (y .stops) (c .before .next-token2 .ensures); stops = tt }
+negation-returns-2 t c =
+    let y = c .before .implication .ensures in
+    let test = c .before .before in
+    let token = test .before .before .before .before in
+    record {
+      operand = parenthesized _ _ _ _ (token .next-token .ensures) _ _ (token .before .before .pre .1 .wanted) (test .if2 .taken)
+          (y .operand) (y .stops) (c .next-token2 .ensures);
+      stops = tt;
+    }
 
 negation-leaf-requires : (t : ℕ) → negation-lts.Need-leaf-requires (negation-claims t) (negation-at t) negation.Post
-negation-leaf-requires t c κs = c .before .before .before .before .before .before .before .before .pre .1 .sound
+negation-leaf-requires t c κs =
+    let token = c .before .before .before .before in
+    let asked = token .before .before .pre in
+    let class = operand-class _ _ _ (token .next-token .ensures) (asked .1 .wanted) in
+    (omega (arith, class, c .if2 .left), asked .1 .sound)
 
 negation-returns-3 : (t : ℕ) → negation-lts.Need-returns-3 (negation-claims t) (negation-at t) negation.Post
-negation-returns-3 t c = record { operand = falsum-read _ _ _ _ (c .before .before .before .before .before .before .before .next-token .ensures) _ (c .before .if3 .taken) (c .leaf .ensures .0) (c .leaf .ensures .1); stops = tt }
-
-negation-sub-t11 : (t : ℕ) → negation-lts.Need-sub-t11 (negation-claims t) (negation-at t) negation.Post
-negation-sub-t11 t c = omega (arith, operand-class _ _ _ (c .before .before .before .before .before .before .before .next-token .ensures) (c .before .before .before .before .before .before .before .before .before .pre .1 .wanted))
-
-negation-leaf-requires-2 : (t : ℕ) → negation-lts.Need-leaf-requires-2 (negation-claims t) (negation-at t) negation.Post
-negation-leaf-requires-2 t c κs = c .before .before .before .before .before .before .before .before .before .pre .1 .sound
-
-negation-returns-4 : (t : ℕ) → negation-lts.Need-returns-4 (negation-claims t) (negation-at t) negation.Post
-negation-returns-4 t c = let k = c .before .before .before .before .before .before .before .before .next-token .ensures in
-    record { operand = letter-read _ _ _ _ k _ (omega (arith, operand-class _ _ _ k (c .before .before .before .before .before .before .before .before .before .before .pre .1 .wanted))) (c .leaf2 .ensures .0) (c .leaf2 .ensures .1); stops = tt }
+negation-returns-3 t c =
+    let test = c .before in
+    let token = test .before .before .before .before in
+    let k = token .next-token .ensures in
+    let class = operand-class _ _ _ k (token .before .before .pre .1 .wanted) in
+    record { operand = leaf-read _ _ _ _ k _ (omega (arith, class, test .if2 .left)) (c .leaf .ensures .0) (c .leaf .ensures .1); stops = tt }
 
 pub +conjunction+disjunction+implication+negation-spec : {M : Type 1} → statement M
 +conjunction+disjunction+implication+negation-spec =
@@ -275,10 +337,8 @@ pub +conjunction+disjunction+implication+negation-spec : {M : Type 1} → statem
     (implication-disjunction-requires t)
     (implication-next-token-requires t)
     (implication-implication-requires t)
-    (implication-compound-requires t)
+    (implication-joined-requires t)
     (implication-returns t)
-    (implication-implication-requires-2 t)
-    (implication-equivalence-requires t)
     (implication-returns-2 t)
     (implication-returns-3 t))
     λ t. negation-lts.spec (negation-claims t)
@@ -293,6 +353,3 @@ pub +conjunction+disjunction+implication+negation-spec : {M : Type 1} → statem
     (negation-returns-2 t)
     (negation-leaf-requires t)
     (negation-returns-3 t)
-    (negation-sub-t11 t)
-    (negation-leaf-requires-2 t)
-    (negation-returns-4 t)

@@ -1,6 +1,7 @@
 -- The scan up to `i` fits.
-use mathlib.Core.Path.{sym, _∙_}
+use mathlib.Core.Path.{sym, _∙_, ap}
 use Rattle.syntax.proofs.Fault.{scan-start, scan-next, scan-misfit, scan-wanting, scan-open, scan-whole}
+use Rattle.syntax.specs.Scan.{turnState}
 use Prim.Native.Nat.{_-_}
 use lib.ListN.{length}
 use Rattle.syntax.proofs.Fault.{ScannedTo}
@@ -30,7 +31,11 @@ enum-told : tie.Need-enum-told Inv-loop μ-loop
 enum-told c = search needs
 
 returns : tie.Need-returns Inv-loop μ-loop
-returns c = scan-misfit _ _ _ _ (c .before .before .before .before .before .before .loop .inv) (c .before .before .before .before .before .loop-test .taken) _ (c .before .before .before .class-of .ensures) (sym (c .enum-told .given .1) ∙ c .before .before .step .ensures)
+returns c =
+    let class = c .before .before .before in
+    let at-loop = class .before .before .before in
+    let test = sym (ap turnState (c .enum-told .given .1)) ∙ c .before .before .step .ensures in
+    scan-misfit _ _ _ _ (at-loop .loop .inv) (class .before .before .loop-test .taken) _ (class .class-of .ensures) test
 
 enum-known-o : tie.Need-enum-known-o Inv-loop μ-loop
 enum-known-o c = search needs
@@ -42,7 +47,11 @@ loop-less : tie.Need-loop-less Inv-loop μ-loop
 loop-less c = search needs
 
 loop-again : tie.Need-loop-again Inv-loop μ-loop
-loop-again c = scan-next _ _ _ _ (c .before .before .before .before .before .before .before .loop .inv) (c .before .before .before .before .before .before .loop-test .taken) _ (c .before .before .before .before .class-of .ensures) _ _ (sym (c .before .o .given .1) ∙ c .before .before .before .step .ensures)
+loop-again c =
+    let class = c .before .before .before .before in
+    let at-loop = class .before .before .before in
+    let test = sym (ap turnState (c .before .o .given .1)) ∙ c .before .before .before .step .ensures in
+    scan-next _ _ _ _ (at-loop .loop .inv) (class .before .before .loop-test .taken) _ (class .class-of .ensures) _ _ test
 
 returns-2 : tie.Need-returns-2 Inv-loop μ-loop
 returns-2 c = scan-wanting _ _ _ _ (c .before .before .loop .inv) (c .before .loop-test .left) (c .if1 .taken)

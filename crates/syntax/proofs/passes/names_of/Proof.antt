@@ -1,23 +1,24 @@
 -- By the tests on the way.
-use borrow.Author.Tests.{eq-eqb, ne-eqb, lt-ltb, le-ltb}
-use native.Mathlib.Omega.{arith}
+use mathlib.Core.Path.{sym, _∙_}
+use borrow.Author.Needs.{needs}
+use Rattle.syntax.proofs.Size.{equals-brings, not-brings, binary-brings, none-brings}
 use Rattle.syntax.proofs.passes.names_of.Statement.{statement}
 use Rattle.syntax.proofs.passes.names_of.Tie as tie
 
 returns : tie.Need-returns
-returns c = (rw (eq-eqb _ 5 (c .if1 .taken)), omega arith)
+returns c = equals-brings _ (c .if1 .taken)
 
 returns-2 : tie.Need-returns-2
-returns-2 c = (rw (ne-eqb _ 5 (c .before .if1 .left), eq-eqb _ 7 (c .if2 .taken)), omega arith)
+returns-2 c = not-brings _ (c .if2 .taken)
+
+is-binary-requires : tie.Need-is-binary-requires
+is-binary-requires c κs = search needs
 
 returns-3 : tie.Need-returns-3
-returns-3 c = (rw (ne-eqb _ 5 (c .before .before .if1 .left), ne-eqb _ 7 (c .before .if2 .left), lt-ltb _ 2 (c .if3 .taken)), omega arith)
+returns-3 c = binary-brings _ (c .before .before .before .if1 .left) (sym (c .before .is-binary .ensures) ∙ c .if3 .taken)
 
 returns-4 : tie.Need-returns-4
-returns-4 c = (rw (ne-eqb _ 5 (c .before .before .before .if1 .left), ne-eqb _ 7 (c .before .before .if2 .left), le-ltb _ 2 (c .before .if3 .left), lt-ltb _ 5 (c .if4 .taken)), omega arith)
-
-returns-5 : tie.Need-returns-5
-returns-5 c = (rw (ne-eqb _ 5 (c .before .before .before .if1 .left), ne-eqb _ 7 (c .before .before .if2 .left), le-ltb _ 2 (c .before .if3 .left), le-ltb _ 5 (c .if4 .left)), omega arith)
+returns-4 c = none-brings _ (c .before .before .if2 .left) (sym (c .before .is-binary .ensures) ∙ c .if3 .left)
 
 pub names-of-spec : {M : Type 1} → statement M
-names-of-spec = tie.close (tie.spec returns returns-2 returns-3 returns-4 returns-5)
+names-of-spec = tie.close (tie.spec returns returns-2 is-binary-requires returns-3 returns-4)

@@ -1,7 +1,6 @@
 -- The count of the first `i` bytes.
 use Rattle.syntax.proofs.Class.{code-small}
-use Rattle.atoms.specs.Words.{num}
-use mathlib.Core.Path.{refl}
+use Rattle.atoms.proofs.Machine.{num-empty}
 use Rattle.syntax.proofs.Size.{count-start, count-next, count-end}
 use Prim.Native.Nat.{_-_}
 use lib.ListN.{length}
@@ -18,8 +17,7 @@ abbrev μ-loop : tie.MeasureT-loop
 μ-loop s c₀ i₀ c i = length s - i
 
 loop-holds : tie.Need-loop-holds Inv-loop μ-loop
-unfolding num
-loop-holds c = count-start _ _ refl
+loop-holds c = count-start _ _ num-empty
 
 shared-slice-read-class-of : tie.Need-shared-slice-read-class-of Inv-loop μ-loop
 shared-slice-read-class-of c = search needs
@@ -37,7 +35,9 @@ loop-less : tie.Need-loop-less Inv-loop μ-loop
 loop-less c = search needs
 
 loop-again : tie.Need-loop-again Inv-loop μ-loop
-loop-again c = count-next _ _ _ _ _ (c .before .before .before .before .loop .inv) (c .before .before .before .loop-test .taken) (c .before .class-of .ensures) (c .counted .ensures)
+loop-again c =
+    let in-loop = c .before .before .before in
+    count-next _ _ _ _ _ (in-loop .before .loop .inv) (in-loop .loop-test .taken) (c .before .class-of .ensures) (c .counted .ensures)
 
 returns : tie.Need-returns Inv-loop μ-loop
 returns c = count-end _ _ _ (c .before .loop .inv) (c .loop-test .left)

@@ -1,44 +1,58 @@
 -- By the tests on the way.
-use borrow.Author.Tests.{eq-eqb, ne-eqb, lt-ltb, le-ltb}
+use mathlib.Core.Path.{sym, _∙_}
 use borrow.Author.Needs.{needs}
+use Rattle.syntax.proofs.Fault.{blank-turn, not-turn, opening-turn, leaf-turn, wanted-misfit, closing-misfit, closing-turn, binary-turn, had-misfit}
 use Rattle.syntax.proofs.passes.step.Statement.{statement}
 use Rattle.syntax.proofs.passes.step.Tie as tie
 
 returns : tie.Need-returns
-returns c = rw (c .before .if1 .taken, lt-ltb _ 6 (c .if2 .taken))
+returns c = blank-turn (c .before .args .depth) _ (c .before .args .operand) (c .if1 .taken)
 
 returns-2 : tie.Need-returns-2
-returns-2 c = rw (c .before .before .if1 .taken, le-ltb _ 6 (c .before .if2 .left), lt-ltb _ 8 (c .if3 .taken))
+returns-2 c = rw (c .before .if2 .taken) (not-turn _ _ (c .if3 .taken))
 
 add-t6 : tie.Need-add-t6
 add-t6 c = search needs
 
 returns-3 : tie.Need-returns-3
-returns-3 c = rw (c .before .before .before .if1 .taken, le-ltb _ 6 (c .before .before .if2 .left), le-ltb _ 8 (c .before .if3 .left), eq-eqb _ 8 (c .if4 .taken))
+returns-3 c = rw (c .before .before .if2 .taken) (opening-turn _ _ (c .if4 .taken))
+
+is-leaf-requires : tie.Need-is-leaf-requires
+is-leaf-requires c κs = search needs
 
 returns-4 : tie.Need-returns-4
-returns-4 c = rw (c .before .before .before .if1 .taken, le-ltb _ 6 (c .before .before .if2 .left), le-ltb _ 8 (c .before .if3 .left), ne-eqb _ 8 (c .if4 .left))
+returns-4 c =
+    let wants = c .before .before .before .before in
+    rw (wants .if2 .taken) (leaf-turn _ (wants .before .before .args .class) (sym (c .before .is-leaf .ensures) ∙ c .if5 .taken))
 
 returns-5 : tie.Need-returns-5
-returns-5 c = rw (c .before .if1 .left, eq-eqb _ 6 (c .if5 .taken))
+returns-5 c =
+    let asked = c .before .before in
+    let wants = asked .before .before in
+    rw (wants .if2 .taken) (wanted-misfit _ _ (wants .before .if1 .left) (asked .before .if3 .left) (asked .if4 .left) (sym (c .before .is-leaf .ensures) ∙ c .if5 .left))
 
 returns-6 : tie.Need-returns-6
-returns-6 c = rw (c .before .before .before .if1 .left, ne-eqb _ 6 (c .before .before .if5 .left), eq-eqb _ 1 (c .before .if6 .taken), eq-eqb _ 0 (c .if7 .taken))
+returns-6 c = rw (c .before .before .if2 .left) (closing-misfit _ _ (c .before .if6 .taken) (c .if7 .taken))
 
-sub-t8 : tie.Need-sub-t8
-sub-t8 c = search needs
+sub-t9 : tie.Need-sub-t9
+sub-t9 c = search needs
 
 returns-7 : tie.Need-returns-7
-returns-7 c = rw (c .before .before .before .if1 .left, ne-eqb _ 6 (c .before .before .if5 .left), eq-eqb _ 1 (c .before .if6 .taken), ne-eqb _ 0 (c .if7 .left))
+returns-7 c = rw (c .before .before .if2 .left) (closing-turn _ _ (c .before .if6 .taken) (c .if7 .left))
+
+is-binary-requires : tie.Need-is-binary-requires
+is-binary-requires c κs = search needs
 
 returns-8 : tie.Need-returns-8
-returns-8 c = rw (c .before .before .before .if1 .left, ne-eqb _ 6 (c .before .before .if5 .left), ne-eqb _ 1 (c .before .if6 .left), eq-eqb _ 0 (c .if8 .taken))
+returns-8 c =
+    let has = c .before .before .before in
+    rw (has .if2 .left) (binary-turn _ (has .before .before .args .class) (sym (c .before .is-binary .ensures) ∙ c .if8 .taken))
 
 returns-9 : tie.Need-returns-9
-returns-9 c = rw (c .before .before .before .before .if1 .left, ne-eqb _ 6 (c .before .before .before .if5 .left), ne-eqb _ 1 (c .before .before .if6 .left), ne-eqb _ 0 (c .before .if8 .left), lt-ltb _ 6 (c .if9 .taken))
-
-returns-10 : tie.Need-returns-10
-returns-10 c = rw (c .before .before .before .before .if1 .left, ne-eqb _ 6 (c .before .before .before .if5 .left), ne-eqb _ 1 (c .before .before .if6 .left), ne-eqb _ 0 (c .before .if8 .left), le-ltb _ 6 (c .if9 .left))
+returns-9 c =
+    let asked = c .before .before in
+    let has = asked .before in
+    rw (has .if2 .left) (had-misfit _ _ (has .before .if1 .left) (asked .if6 .left) (sym (c .before .is-binary .ensures) ∙ c .if8 .left))
 
 pub step-spec : {M : Type 1} → statement M
 step-spec =
@@ -48,11 +62,12 @@ step-spec =
     returns-2
     add-t6
     returns-3
+    is-leaf-requires
     returns-4
     returns-5
     returns-6
-    sub-t8
+    sub-t9
     returns-7
+    is-binary-requires
     returns-8
-    returns-9
-    returns-10)
+    returns-9)

@@ -42,13 +42,21 @@ add-if1 : tie.Need-add-if1 Inv-loop μ-loop
 add-if1 c = search needs
 
 returns : tie.Need-returns Inv-loop μ-loop
-returns c = found-deep _ _ _ _ (c .before .before .before .before .before .before .loop .inv) (c .before .before .before .before .before .loop-test .taken) _ _ (c .before .before .before .one-if-same .ensures .0) (c .before .one-if-same2 .ensures .0) (c .before .before .before .one-if-same .ensures .1) (c .before .one-if-same2 .ensures .1) (c .if1 .taken)
+returns c =
+    let in-loop = c .before .before .before .before .before in
+    let opens = c .before .before .before .one-if-same .ensures in
+    let shuts = c .before .one-if-same2 .ensures in
+    found-deep _ _ _ _ (in-loop .before .loop .inv) (in-loop .loop-test .taken) _ _ (opens .0) (shuts .0) (opens .1) (shuts .1) (c .if1 .taken)
 
 loop-less : tie.Need-loop-less Inv-loop μ-loop
 loop-less c = search needs
 
 loop-again : tie.Need-loop-again Inv-loop μ-loop
-loop-again c = shallow-next _ _ _ _ (c .before .before .before .before .before .before .loop .inv) (c .before .before .before .before .before .loop-test .taken) _ _ (c .before .before .before .one-if-same .ensures .0) (c .before .one-if-same2 .ensures .0) (c .before .before .before .one-if-same .ensures .1) (c .before .one-if-same2 .ensures .1) (λ h. omega arith)
+loop-again c =
+    let in-loop = c .before .before .before .before .before in
+    let opens = c .before .before .before .one-if-same .ensures in
+    let shuts = c .before .one-if-same2 .ensures in
+    shallow-next _ _ _ _ (in-loop .before .loop .inv) (in-loop .loop-test .taken) _ _ (opens .0) (shuts .0) (opens .1) (shuts .1) (λ h. omega arith)
 
 returns-2 : tie.Need-returns-2 Inv-loop μ-loop
 returns-2 c = shallow-all _ _ _ _ (c .before .loop .inv) (c .loop-test .left)

@@ -15,7 +15,11 @@ compound-requires-3 : tie.Need-compound-requires-3
 compound-requires-3 c κs = search needs
 
 returns : tie.Need-returns
-returns c = (c .compound3 .ensures .0 ∙ c .before .compound2 .ensures .0 ∙ c .before .before .before .compound .ensures .0, then-equivalence _ _ _ _ _ _ (c .before .before .before .compound .ensures .1) (c .before .compound2 .ensures .1) (c .compound3 .ensures .1))
+returns c =
+    let there = c .before .before .before .compound .ensures in
+    let back = c .before .compound2 .ensures in
+    let both = c .compound3 .ensures in
+    (both .0 ∙ back .0 ∙ there .0, then-equivalence _ _ _ _ _ _ (there .1) (back .1) (both .1))
 
 pub equivalence-spec : {M : Type 1} → statement M
 equivalence-spec =

@@ -28,7 +28,10 @@ same-leaf-requires : tie.Need-same-leaf-requires Inv-loop μ-loop
 same-leaf-requires c κs = search needs
 
 returns : tie.Need-returns Inv-loop μ-loop
-returns c = row-here _ (c .before .before .before .before .before .pre) _ _ (c .before .before .before .before .loop .inv) (c .before .before .before .loop-test .taken) _ _ (c .before .same-leaf .ensures) (c .if1 .taken)
+returns c =
+    let in-loop = c .before .before .before in
+    let at-loop = in-loop .before in
+    row-here _ (at-loop .before .pre) _ _ (at-loop .loop .inv) (in-loop .loop-test .taken) _ _ (c .before .same-leaf .ensures) (c .if1 .taken)
 
 add-i : tie.Need-add-i Inv-loop μ-loop
 add-i c = search needs
@@ -37,7 +40,10 @@ loop-less : tie.Need-loop-less Inv-loop μ-loop
 loop-less c = search needs
 
 loop-again : tie.Need-loop-again Inv-loop μ-loop
-loop-again c = row-later _ (c .before .before .before .before .before .pre) _ _ (c .before .before .before .before .loop .inv) (c .before .before .before .loop-test .taken) _ _ (c .before .same-leaf .ensures) (c .if1 .left)
+loop-again c =
+    let in-loop = c .before .before .before in
+    let at-loop = in-loop .before in
+    row-later _ (at-loop .before .pre) _ _ (at-loop .loop .inv) (in-loop .loop-test .taken) _ _ (c .before .same-leaf .ensures) (c .if1 .left)
 
 returns-2 : tie.Need-returns-2 Inv-loop μ-loop
 returns-2 c = leaf-none _ _ _ (c .before .loop .inv) (rw (held-length _ (c .before .before .pre)) (c .loop-test .left))

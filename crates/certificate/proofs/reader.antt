@@ -1,0 +1,2 @@
+-- What the walks over a reader share.
+mod Held

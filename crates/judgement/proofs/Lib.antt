@@ -1,0 +1,3 @@
+-- What the code prints of a certificate is what the definitions print, from its bytes.
+pub mod Printed
+pub mod Fitting

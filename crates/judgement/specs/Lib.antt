@@ -1,0 +1,2 @@
+-- Definitions of what is printed of a judged certificate.
+pub mod Report

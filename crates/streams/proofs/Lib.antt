@@ -1,0 +1,2 @@
+-- Laws of what came.
+pub mod Reading

@@ -1,0 +1,2 @@
+-- How many bytes came.
+pub mod Input

@@ -1,0 +1,4 @@
+-- Laws of texts that are written piece by piece.
+pub mod Appending
+pub mod Decimal
+pub mod Lengths

@@ -1,0 +1,25 @@
+-- A draft has room for it.
+use mathlib.Core.Path.{refl}
+use Rattle.zestanchor.proofs.Tasks.{certified-size}
+use borrow.Author.Needs.{needs}
+use Rattle.zestanchor.proofs.certified_length.Statement.{statement}
+use Rattle.zestanchor.proofs.certified_length.Tie as tie
+
+settle-requires : tie.Need-settle-requires
+settle-requires c κs = search needs
+
+slice-aggregate-write-certified : tie.Need-slice-aggregate-write-certified
+slice-aggregate-write-certified c = search needs
+
+write-certified-requires : tie.Need-write-certified-requires
+write-certified-requires c κs = search needs
+
+returns : tie.Need-returns
+returns c =
+    let settled = c .before .before .before in
+    certified-size _ _ _ _ refl (c .before .write-certified .ensures _ (settled .settle .ensures))
+
+pub certified-length-spec : {M : Type 1} → statement M
+certified-length-spec =
+    tie.close
+    (tie.spec settle-requires slice-aggregate-write-certified write-certified-requires returns)
