@@ -3,7 +3,7 @@ use mathlib.Core.List.{List, []}
 use mathlib.Core.Option.{Option, none, some}
 use mathlib.Core.Path.{_≡_, subst}
 use Prim.Native.Nat.{ℕ, _^_, _≤_, _<_}
-use lib.Dec.{T, eqb, ltb, leb, eqb→eq, lt→ltb, le→leb}
+use lib.Dec.{T, eqb, leb, eqb→eq, lt→ltb, le→leb}
 use lib.ListN.{length}
 use Rattle.atoms.proofs.Truth.{T-and, true-T, by-cond}
 use Rattle.ipl.specs.Lists.{all, All}

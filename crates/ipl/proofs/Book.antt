@@ -11,7 +11,7 @@ use lib.ListN.{length, length-append}
 use borrow.Author.Tests.{leb-false, eqb-true, eq-eqb, ne-eqb}
 use Rattle.atoms.specs.Sets.{limit}
 use Rattle.atoms.proofs.Machine.{limit-small, limit-least}
-use Rattle.atoms.proofs.Truth.{T-left, T-right, T-and, T-or, T-inl, T-inr, T-true, true-T, false-T, by-cond}
+use Rattle.atoms.proofs.Truth.{T-left, T-right, T-and, T-or, T-inl, T-inr, T-true, true-T, by-cond}
 use Rattle.ipl.specs.Lists.{any, All}
 use Rattle.ipl.specs.Clause.{bot, one, Flat, Implication, closing, closings, sameFlat, closed}
 use Rattle.ipl.specs.Range.{flatTable, implicationTable, stepTable, atomOrBot, setInRange, flatInRange, implicationInRange}

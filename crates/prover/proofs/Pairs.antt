@@ -13,7 +13,7 @@ use Rattle.atoms.specs.Words.{rowOf}
 use Rattle.atoms.proofs.Truth.{T-true, true-T}
 use Rattle.ipl.specs.Lists.{tabulate}
 use Rattle.ipl.specs.Clause.{Implication, realizes}
-use Rattle.ipl.specs.Search.{Pair, firstAt, firstUnrealized}
+use Rattle.ipl.specs.Search.{firstAt, firstUnrealized}
 use Rattle.ipl.proofs.Lists.{tabulate-length, tabulate-at}
 use Rattle.prover.specs.State.{implicationRow, implicationsOf}
 use Rattle.prover.specs.Working.{realizedAt, FirstAt, firstPair, Passed}

@@ -1,16 +1,12 @@
 -- The report of a text is never longer than what is written.
-use mathlib.Core.Bool.{Bool, true, false}
 use mathlib.Core.List.{List, [], _∷_, _++_}
 use mathlib.Core.Logic.{inl, inr}
-use mathlib.Core.Path.{_≡_, refl, ap, subst}
-use Prim.Native.Nat.{ℕ, zero, suc, _+_, _*_, _/_, _^_, _≤_, _<_, min}
-use Prim.Native.String.{String}
-use native.Mathlib.Nat.{pow-suc}
+use mathlib.Core.Path.{_≡_, ap, subst}
+use Prim.Native.Nat.{ℕ, _+_, _*_, _^_, _≤_, _<_, min}
 use native.Mathlib.Omega.{arith}
 use lib.Dec.{T, eqb}
 use lib.ListN.{length, length-append}
 use lib.Pow.{pow-mono}
-use borrow.Author.Tests.{eqb-false}
 use Rattle.atoms.specs.Sets.{limit}
 use Rattle.atoms.proofs.Machine.{limit-small, set-digits}
 use Rattle.ipl.specs.Lists.{All}

@@ -2,7 +2,7 @@
 use libc::STDERR_FILENO;
 use libc::STDIN_FILENO;
 use libc::STDOUT_FILENO;
-ghost use Rattle.streams.specs.Input.{Within};
+ghost use Rattle.streams.specs.Input.{Within, AtMost};
 
 // How many bytes came; or a read failed, and it was told.
 pub enum Input {
@@ -42,7 +42,9 @@ pub fn read(buffer: &mut [u8]) -> Input
 }
 
 // Reads on and counts what comes, until the input ends or `most` bytes came.
-pub fn count(most: usize) -> Input {
+pub fn count(most: usize) -> Input
+    ensures { λ r. ⌜ AtMost r most ⌝ }
+{
     let mut space = io::buffer();
     let mut counted = 0;
     while counted < most {

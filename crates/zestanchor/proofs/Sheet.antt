@@ -22,7 +22,7 @@ use Rattle.prover.specs.declared.Answered.{Answered}
 use Rattle.prover.proofs.DemandThree.{nothing-in-range, asked-as, call-kept}
 use Rattle.syntax.specs.Judge as judgement
 use Rattle.syntax.specs.Judge.{Judgement, judge}
-use Rattle.clausify.specs.Naming.{textBook, goalOf}
+use Rattle.clausify.specs.Naming.{textBook}
 use Rattle.clausify.specs.Calls.{SettledAs}
 use Rattle.clausify.specs.declared.Settled.{Settled}
 use Rattle.clausify.proofs.TextBook.{text-reached}
