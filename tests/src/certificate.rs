@@ -1,9 +1,9 @@
 //! Certificates (the answer sheets of document 01): written of an answer, and judged whoever made them.
 
-use crate::naming::{single, Flat, Implication, Problem, FALSE};
+use crate::naming::{single, Flat, Implication, Problem, MOST_FLATS, MOST_IMPLICATIONS};
 use crate::question::{proves, Clauses};
 use crate::refusal::Refusal;
-use crate::search::{learned, realizes, Answer, Step, Verdict};
+use crate::search::{learned, realizes, Answer, Step, Verdict, MOST_STEPS, MOST_WORLDS};
 
 const CONTENTS: usize = 37;
 
@@ -125,20 +125,18 @@ fn parse(bytes: &[u8]) -> Option<Certificate> {
 
 impl Certificate {
     fn in_range(&self) -> bool {
-        let Problem { atoms, ref flats, ref implications, goal } = self.problem;
-        let set = |set: u64| atoms == 64 || set >> atoms == 0;
-        let atom_or_false = |atom: u8| atom < atoms || atom == FALSE;
-        let implication = |i: &Implication| i.a < atoms && atom_or_false(i.b) && atom_or_false(i.c);
-        let step = |s: &Step| usize::from(s.implication) < implications.len() && set(s.assumed);
-        (1..=64).contains(&atoms)
-            && flats.len() <= 512
-            && flats.iter().all(|f| set(f.left | f.right))
-            && implications.len() <= 128
-            && implications.iter().all(implication)
-            && atom_or_false(goal)
+        let problem = &self.problem;
+        let Problem { atoms, flats, implications, goal } = problem;
+        let step = |s: &Step| usize::from(s.implication) < implications.len() && problem.has_set(s.assumed);
+        (1..=64).contains(atoms)
+            && flats.len() <= MOST_FLATS
+            && flats.iter().all(|f| problem.has_set(f.left | f.right))
+            && implications.len() <= MOST_IMPLICATIONS
+            && implications.iter().all(|i| problem.has_atoms_of(i))
+            && problem.has_atom_or_false(*goal)
             && match &self.claim {
-                Claim::Derived(steps) => steps.len() <= 512 && steps.iter().all(step),
-                Claim::Countered(worlds) => worlds.len() <= 256 && worlds.iter().all(|&world| set(world)),
+                Claim::Derived(steps) => steps.len() <= MOST_STEPS && steps.iter().all(step),
+                Claim::Countered(worlds) => worlds.len() <= MOST_WORLDS && worlds.iter().all(|&w| problem.has_set(w)),
             }
     }
 }

@@ -5,6 +5,9 @@ use crate::formula::{letters, Connective, Part};
 /// False, where a number of an atom may stand for it.
 pub const FALSE: u8 = 255;
 
+pub const MOST_FLATS: usize = 512;
+pub const MOST_IMPLICATIONS: usize = 128;
+
 #[derive(Clone, Copy, Debug, PartialEq, Eq)]
 pub struct Flat {
     pub left: u64,
@@ -73,6 +76,19 @@ pub fn atoms_of(formula: &[Part]) -> Vec<u8> {
 }
 
 impl Problem {
+    pub fn has_set(&self, set: u64) -> bool {
+        self.atoms == 64 || set >> self.atoms == 0
+    }
+
+    pub fn has_atom_or_false(&self, atom: u8) -> bool {
+        atom < self.atoms || atom == FALSE
+    }
+
+    pub fn has_atoms_of(&self, implication: &Implication) -> bool {
+        let Implication { a, b, c } = *implication;
+        a < self.atoms && self.has_atom_or_false(b) && self.has_atom_or_false(c)
+    }
+
     fn join(&mut self, connective: Connective, x: u8, y: u8, z: u8) {
         match connective {
             Connective::And => {

@@ -1,29 +1,42 @@
 //! The built programs, run as children.
 
 use std::ffi::OsStr;
-use std::io::{ErrorKind, Write};
-use std::process::{exit, Child, Command, Output, Stdio};
-use std::thread::sleep;
+use std::io::{ErrorKind, Read, Write};
+use std::process::{exit, Child, ChildStdin, ChildStdout, Command, Output, Stdio};
+use std::sync::mpsc::{channel, Receiver, Sender};
+use std::thread;
 use std::time::Duration;
 
 pub const SETTLE: &str = concat!(env!("CARGO_MANIFEST_DIR"), "/../target/bin/settle");
 pub const CHECK_SHEET: &str = concat!(env!("CARGO_MANIFEST_DIR"), "/../target/bin/check_sheet");
+pub const SESSION: &str = concat!(env!("CARGO_MANIFEST_DIR"), "/../target/bin/session");
+
+/// After a piece of an input, so that it is mostly read by itself.
+const PAUSE: Duration = Duration::from_micros(200);
+
+/// Longer than any answer takes.
+const PATIENCE: Duration = Duration::from_secs(20);
 
 /// What a program does with these bytes on its standard input.
 pub fn run(program: &str, arguments: &[&OsStr], input: &[u8]) -> Output {
-    let mut child = start(program, arguments);
-    give(&mut child, input);
-    end(child)
+    run_in_pieces(program, arguments, input, input.len())
 }
 
 /// The same with an input that comes in pieces of so many bytes, some time apart.
 pub fn run_in_pieces(program: &str, arguments: &[&OsStr], input: &[u8], size: usize) -> Output {
     let mut child = start(program, arguments);
-    for piece in input.chunks(size) {
-        give(&mut child, piece);
-        sleep(Duration::from_millis(2));
-    }
-    end(child)
+    let mut stdin = child.stdin.take().expect("its standard input");
+    let pieces = input.chunks(size.max(1));
+    // The program may print more than a pipe holds before it has read all of its input.
+    thread::scope(|scope| {
+        scope.spawn(move || {
+            for piece in pieces {
+                give(&mut stdin, piece);
+                thread::sleep(PAUSE);
+            }
+        });
+        child.wait_with_output().expect("its end")
+    })
 }
 
 fn start(program: &str, arguments: &[&OsStr]) -> Child {
@@ -36,14 +49,61 @@ fn start(program: &str, arguments: &[&OsStr]) -> Child {
 }
 
 /// A program may end before it has taken all of its input.
-fn give(child: &mut Child, bytes: &[u8]) {
-    let input = child.stdin.as_mut().expect("its standard input");
+fn give(input: &mut ChildStdin, bytes: &[u8]) {
     match input.write_all(bytes) {
         Err(error) if error.kind() != ErrorKind::BrokenPipe => panic!("no input: {error}"),
         _ => {}
     }
 }
 
-fn end(child: Child) -> Output {
-    child.wait_with_output().expect("its end")
+/// A program that is told something, heard, and told more.
+pub struct Conversation {
+    child: Child,
+    input: ChildStdin,
+    output: Receiver<Vec<u8>>,
+}
+
+impl Conversation {
+    pub fn start(program: &str) -> Conversation {
+        let mut child = start(program, &[]);
+        let input = child.stdin.take().expect("its standard input");
+        let stdout = child.stdout.take().expect("its standard output");
+        let (sender, output) = channel();
+        thread::spawn(move || pass_on(stdout, &sender));
+        Conversation { child, input, output }
+    }
+
+    pub fn tell(&mut self, bytes: &[u8]) {
+        give(&mut self.input, bytes);
+        thread::sleep(PAUSE);
+    }
+
+    /// So many bytes of its output or more, or what there is when no more comes in time.
+    pub fn hear(&self, length: usize) -> Vec<u8> {
+        let mut heard = Vec::new();
+        while heard.len() < length {
+            match self.output.recv_timeout(PATIENCE) {
+                Ok(bytes) => heard.extend(bytes),
+                Err(_) => break,
+            }
+        }
+        heard
+    }
+
+    /// Ends its input; its output has what was not heard before.
+    pub fn end(self) -> Output {
+        drop(self.input);
+        let mut output = self.child.wait_with_output().expect("its end");
+        output.stdout = self.output.iter().flatten().collect();
+        output
+    }
+}
+
+fn pass_on(mut output: ChildStdout, to: &Sender<Vec<u8>>) {
+    let mut bytes = [0; 4096];
+    while let Ok(count @ 1..) = output.read(&mut bytes) {
+        if to.send(bytes[..count].to_vec()).is_err() {
+            return;
+        }
+    }
 }

@@ -5,7 +5,7 @@ use crate::formula::Formula;
 use crate::naming::{problem_of, Problem};
 use crate::reader::read;
 use crate::refusal::Refusal;
-use crate::search::{settle, Answer, Verdict};
+use crate::search::{settle, Answer, Step, Verdict};
 
 /// A text settled.
 pub struct Settled {
@@ -22,14 +22,16 @@ pub fn settle_text(text: &[u8]) -> Result<Settled, Refusal> {
 }
 
 pub fn report(outcome: &Result<Settled, Refusal>) -> String {
-    let settled = match outcome {
-        Err(refusal) => return format!("{refusal}\n"),
-        Ok(settled) => settled,
-    };
-    let answer = &settled.answer;
-    let figures =
-        format!("atoms {} questions {} learned {}\n", settled.problem.atoms, answer.questions, answer.steps.len());
-    let step = |s: &crate::search::Step| format!("step {} {}\n", s.implication, s.assumed);
+    match outcome {
+        Err(refusal) => format!("{refusal}\n"),
+        Ok(settled) => verdict_lines(settled.problem.atoms, &settled.answer),
+    }
+}
+
+/// What is printed of a verdict over so many atoms.
+pub fn verdict_lines(atoms: u8, answer: &Answer) -> String {
+    let figures = format!("atoms {atoms} questions {} learned {}\n", answer.questions, answer.steps.len());
+    let step = |s: &Step| format!("step {} {}\n", s.implication, s.assumed);
     let world = |w: &u64| format!("world {w}\n");
     match &answer.verdict {
         Verdict::Valid => {

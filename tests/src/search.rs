@@ -4,8 +4,8 @@ use crate::naming::{single, Flat, Implication, Problem};
 use crate::question::{least, proves, Clauses};
 use crate::refusal::Refusal;
 
-const MOST_WORLDS: usize = 256;
-const MOST_STEPS: usize = 512;
+pub const MOST_WORLDS: usize = 256;
+pub const MOST_STEPS: usize = 512;
 
 #[derive(Clone, Copy, Debug, PartialEq, Eq)]
 pub struct Step {
@@ -42,7 +42,13 @@ pub fn realizes(world: u64, worlds: &[u64], implication: &Implication) -> bool {
 }
 
 pub fn settle(problem: &Problem) -> Result<Answer, Refusal> {
+    settle_after(problem, &[])
+}
+
+/// The same where steps are held from before: the answer has them first, and counts its own questions alone.
+pub fn settle_after(problem: &Problem, held: &[Step]) -> Result<Answer, Refusal> {
     let mut search = Search { problem, clauses: Clauses::new(&problem.flats), steps: Vec::new(), questions: 0 };
+    held.iter().for_each(|&step| search.hold(step));
     loop {
         search.questions += 1;
         let verdict = match least(&search.clauses, problem.atoms, 0, problem.goal) {
@@ -109,8 +115,13 @@ impl Search<'_> {
                 assumed = rest;
             }
         }
-        self.clauses.push(learned(implication, assumed));
-        self.steps.push(Step { implication: index as u8, assumed });
+        self.hold(Step { implication: index as u8, assumed });
         Ok(())
+    }
+
+    fn hold(&mut self, step: Step) {
+        let implication = &self.problem.implications[usize::from(step.implication)];
+        self.clauses.push(learned(implication, step.assumed));
+        self.steps.push(step);
     }
 }

@@ -28,6 +28,11 @@ pub fn damaged(random: &mut Random) -> Vec<u8> {
     input
 }
 
+/// A text that has every connective, parentheses within parentheses, and a space.
+pub fn with_every_connective() -> Vec<u8> {
+    [&b"((a>~b)&(c|0) = ~~(d>(e&f)))>".repeat(4)[..], b"g"].concat()
+}
+
 pub fn limits() -> Vec<Vec<u8>> {
     let mut all = Vec::new();
     for length in [0, 1, 2, 4095, 4096, 4097, 5000, 70_000] {

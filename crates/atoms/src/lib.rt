@@ -1,7 +1,8 @@
 // Sets of atoms. Atom i counts 2^i; every function is total, for any number and any set.
+ghost use mathlib.Core.Bool.{true};
 ghost use mathlib.Core.Path.{_≡_};
-ghost use Prim.Native.Nat.{_/_, _%_, _^_, _<_};
-ghost use lib.Dec.{eqb, leb};
+ghost use Prim.Native.Nat.{_+_, _*_, _/_, _%_, _^_, _<_};
+ghost use lib.Dec.{eqb, leb, ltb};
 ghost use Rattle.atoms.specs.Sets.{limit, has, union, common, minus, within, meets, withoutLowest};
 ghost use Rattle.atoms.specs.Bytes.{digits, numberAt, putAt};
 ghost use Rattle.atoms.specs.Words.{num, everyAtom, singleOrEmpty, below, HighestOrEmpty, rowOf, rowCount, RowSet};
@@ -22,6 +23,12 @@ pub struct AtomSet {
 pub struct Tenth {
     pub rest: AtomSet,
     pub digit: u8,
+}
+
+// Whether a number with a further digit is that of a set, and the set.
+pub struct Longer {
+    pub fits: bool,
+    pub set: AtomSet,
 }
 
 impl AtomSet {
@@ -175,6 +182,26 @@ impl AtomSet {
                 bits: self.bits / 10,
             },
             digit: (self.bits % 10) as u8,
+        }
+    }
+
+    // The number with a further digit in base ten.
+    pub fn with_digit(self, digit: u8) -> Longer
+        ensures { λ r. ⌜ (r .fits ≡ ltb (10 * num self + digit) (2 ^ limit)) × (r .fits ≡ true → num (r .set) ≡ 10 * num self + digit) ⌝ }
+    {
+        let last = digit as u64;
+        if (0xffff_ffff_ffff_ffff - last) / 10 < self.bits {
+            Longer {
+                fits: false,
+                set: self,
+            }
+        } else {
+            Longer {
+                fits: true,
+                set: AtomSet {
+                    bits: 10 * self.bits + last,
+                },
+            }
         }
     }
 }

@@ -10,9 +10,10 @@ use native.Mathlib.Omega.{arith}
 use lib.Dec.{eqb}
 use lib.ListN.{length, take}
 use borrow.Author.Tests.{eq-eqb, ne-eqb, le-leb}
+use Rattle.ipl.specs.Clause.{Flat, Implication}
 use Rattle.ipl.specs.Search.{Outcome, valid, refuted, refused, unfinished}
 use Rattle.ipl.specs.Book as B
-use Rattle.ipl.specs.Book.{Book, Call, opened, answer, refusal, taken, stepsAfter}
+use Rattle.ipl.specs.Book.{Book, Call, opened, answer, refusal, taken, stepsAfter, next}
 use Rattle.ipl.proofs.Lists.{tabulate-length}
 use Rattle.ipl.proofs.Book.{Reached, opened-reached, next-reached}
 use Rattle.prover.specs.State.{flatsOf, implicationsOf, implicationRow, book}
@@ -44,34 +45,58 @@ use Rattle.atoms.proofs.Bytes.{take-put}
 -- ---- what a run keeps
 
 -- A right problem and answer, where there is one.
-abbrev IsRight : Option Certificate → Type 0
+abbrev pub IsRight : Option Certificate → Type 0
 IsRight none = Unit {0}
 IsRight (some x) = Right (x .problem) (x .claim)
 
-record Standing (s : Session) (x : Option Certificate) : Type 0 where
-  in-range : inRange s ≡ true
-  reached : Reached (book s)
-  held-is : certificateHeld s (s .held) ≡ x
-  right : IsRight x
+pub record Standing (s : Session) (x : Option Certificate) : Type 0 where
+  pub in-range : inRange s ≡ true
+  pub reached : Reached (book s)
+  pub held-is : certificateHeld s (s .held) ≡ x
+  pub right : IsRight x
+
+-- At first, no verdict is held.
+pub nothing-stands : {total : ℕ} (s : Session) → Reached (book s) → NothingHeld total s → Standing s none
+nothing-stands {total} s reached nothing = record {
+  in-range = nothing-in-range total s reached nothing;
+  reached = reached;
+  held-is = ap (certificateHeld s) (nothing .no-verdict);
+  right = tt;
+}
 
 module _ (s : Session) (x : Option Certificate) (h : Standing s x) where
   -- After a call, once it is known what is held.
   after-call : (c : Call) (u : Session) → Kept s c u → (y : Option Certificate) → certificateHeld u (u .held) ≡ y → IsRight y → Standing u y
   after-call c u k y e right = record { in-range = k .1; reached = subst Reached (sym (k .0)) (next-reached (book s) c (h .reached)); held-is = e; right = right }
 
-  added : (c : Call) (u : Changed) → Added s (number s (refusal (book s) c)) (taken (book s) c) u → Kept s c (u .session)
-      → Standing (u .session) (cond (eqb (refusal (book s) c) 0) none x)
-  added c u a k =
-      let met : number s (refusal (book s) c) ≡ refusal (book s) c = rw (h .in-range) refl in
-      elim (decLe (refusal (book s) c) 0) [
-        | yes l ↦
-            let e : refusal (book s) c ≡ 0 = omega arith in
-            rw (eq-eqb (refusal (book s) c) 0 e) (after-call c (u .session) k none (ap (certificateHeld (u .session)) (a .nothing (met ∙ e) .no-verdict)) tt)
-        | no l ↦
-            let d : refusal (book s) c ≡ 0 → ⊥ = λ e. omega arith in
-            let same : u .session ≡ s = a .unchanged (λ e. d (sym met ∙ e)) in
-            rw (ne-eqb (refusal (book s) c) 0 d) (subst (λ (v : Session). Standing v x) (sym same) h)
-      ]
+  module _ (c : Call) (u : Changed) (a : Added s (number s (refusal (book s) c)) (taken (book s) c) u) where
+    met : number s (refusal (book s) c) ≡ refusal (book s) c
+    met = rw (h .in-range)
+
+    refused-same : (refusal (book s) c ≡ 0 → ⊥) → u .session ≡ s
+    refused-same d = a .unchanged (λ e. d (sym met ∙ e))
+
+    pub added-book : book (u .session) ≡ next (book s) c
+    unfolding next
+    added-book = elim (decLe (refusal (book s) c) 0) [
+      | yes l ↦
+          let e : refusal (book s) c ≡ 0 = omega arith in
+          a .holds (met ∙ e) ∙ rw (eq-eqb (refusal (book s) c) 0 e)
+      | no l ↦
+          let d : refusal (book s) c ≡ 0 → ⊥ = λ e. omega arith in
+          ap book (refused-same d) ∙ rw (ne-eqb (refusal (book s) c) 0 d)
+    ]
+
+    pub added : Standing (u .session) (cond (eqb (refusal (book s) c) 0) none x)
+    added = elim (decLe (refusal (book s) c) 0) [
+      | yes l ↦
+          let e : refusal (book s) c ≡ 0 = omega arith in
+          let reached : Reached (book (u .session)) = subst Reached (sym added-book) (next-reached (book s) c (h .reached)) in
+          rw (eq-eqb (refusal (book s) c) 0 e) (nothing-stands (u .session) reached (a .nothing (met ∙ e)))
+      | no l ↦
+          let d : refusal (book s) c ≡ 0 → ⊥ = λ e. omega arith in
+          rw (ne-eqb (refusal (book s) c) 0 d) (subst (λ (v : Session). Standing v x) (sym (refused-same d)) h)
+    ]
 
   answered : (g : ℕ) (u : Answered) → Kept s (B.question g) (u .session) → (o : Outcome) → answer (book s) g ≡ o → AskedAs s g o u
       → Standing (u .session) (orElse (withProblem (book s) g (claimOfVerdict (book s) o)) x)
@@ -88,10 +113,10 @@ module _ (s : Session) (x : Option Certificate) (h : Standing s x) where
   answered g u k (refused m) e a = subst (λ (v : Session). Standing v x) (sym (a .1)) h
   answered g u k unfinished e a = absurd (a .0)
 
-  called : (c : Made) (u : Returned c) → Meets s c u → Standing (sessionOf c u) (keeps (book s) (callOf c) x)
+  pub called : (c : Made) (u : Returned c) → Meets s c u → Standing (sessionOf c u) (keeps (book s) (callOf c) x)
   unfolding refusal
-  called (addFlat left right) u m = added (callOf (addFlat left right)) u m (call-kept s (h .in-range) (h .reached) (addFlat left right) u m)
-  called (addImplication a b c) u m = added (callOf (addImplication a b c)) u m (call-kept s (h .in-range) (h .reached) (addImplication a b c) u m)
+  called (addFlat left right) u m = added (callOf (addFlat left right)) u m
+  called (addImplication a b c) u m = added (callOf (addImplication a b c)) u m
   called (question g) u m =
       answered g u (call-kept s (h .in-range) (h .reached) (question g) u m) (answer (book s) g) refl (asked-as s (h .in-range) (h .reached) g u m)
 
@@ -105,11 +130,15 @@ run-stands (c ∷ cs) s x h run =
 
 -- ---- what is written of it
 
--- Its clauses are those held, so the bound for it is the length told.
+-- The bound for as many clauses as the book has is the length told.
+pub told-for-book : (s : Session) → bound (length (book s .flats)) (length (book s .implications)) ≡ bound (s .flats .count) (s .implications .count)
+told-for-book s =
+    ap₂ bound (clauses-length (s .flats .left) (s .flats .right) (s .flats .count)) (tabulate-length (implicationRow (s .implications)) (s .implications .count))
+
+-- The clauses of a certificate are those held.
 told-for : (s : Session) (x : Certificate) → x .problem .flats ≡ flatsOf (s .flats) → x .problem .implications ≡ implicationsOf (s .implications)
     → bound (length (x .problem .flats)) (length (x .problem .implications)) ≡ bound (s .flats .count) (s .implications .count)
-told-for s x f i =
-    ap₂ bound (ap length f ∙ clauses-length (s .flats .left) (s .flats .right) (s .flats .count)) (ap length i ∙ tabulate-length (implicationRow (s .implications)) (s .implications .count))
+told-for s x f i = ap₂ (λ (F : List Flat) (X : List Implication). bound (length F) (length X)) f i ∙ told-for-book s
 
 told-held : (s : Session) (v : Held) (x : Certificate) → certificateHeld s v ≡ some x
     → bound (length (x .problem .flats)) (length (x .problem .implications)) ≡ bound (s .flats .count) (s .implications .count)
@@ -144,14 +173,8 @@ written-from s (some x) h before r after w = certificate-written s x h before r 
 
 -- From a session that holds a reached book and no verdict.
 pub written-after : {total : ℕ} (k : Book) → Reached k → (s : Session) → book s ≡ k → NothingHeld total s → WrittenAfter k s
-written-after {total} k reached s e nothing cs run before r after w =
-    let first : Reached (book s) = subst Reached (sym e) reached in
-    let start : Standing s none = record {
-      in-range = nothing-in-range total s first nothing;
-      reached = first;
-      held-is = ap (certificateHeld s) (nothing .no-verdict);
-      right = tt;
-    } in
+written-after k reached s e nothing cs run before r after w =
+    let start : Standing s none = nothing-stands s (subst Reached (sym e) reached) nothing in
     let end = endOf s cs run in
     let x = lastAnswer k none (map callOf cs) in
     let stands : Standing end x = subst (λ (k : Book). Standing end (lastAnswer k none (map callOf cs))) e (run-stands cs s none start run) in

@@ -17,6 +17,7 @@ use Rattle.prover.specs.InRange.{inRange}
 use Rattle.prover.proofs.Sessions.{usable, few-flats, steps-count, few-worlds}
 use Rattle.prover.proofs.Refusals.{clauses-length, implications-length}
 use Rattle.prover.specs.declared.Held.{Held}
+use Rattle.prover.specs.declared.Held.the-variants as held
 use Rattle.prover.specs.declared.Session.{Session}
 use Rattle.certificate.specs.Certificate.{Problem, Claim}
 use Rattle.certificate.specs.Format.{flatBytes, implicationBytes, each, flatRow, implicationRow, claimRows, refutes, rowsOf, claimWidth}
@@ -24,7 +25,7 @@ use Rattle.certificate.specs.Format.{bodiesStart, flatStart, implicationStart, 
 use Rattle.certificate.specs.Written.{problemOfBook}
 use Rattle.certificate.specs.declared.Contents.{Contents}
 use Rattle.certificate.proofs.Encoding.{length-each, length-flat, length-implication, length-claim, encode-length}
-use Rattle.certify.specs.Held.{claimHeld, certificateOf, certificateHeld}
+use Rattle.certify.specs.Held.{Certificate, bytesOf, claimHeld, certificateOf, certificateHeld}
 use Rattle.certify.specs.Writing.{rowsHeld, contentsHeld}
 use Rattle.certify.specs.Written.{lengthTold, WrittenAs, Written}
 use Rattle.certify.specs.declared.Length.{Length}
@@ -168,3 +169,17 @@ verdict-written s before r after v h e w = record {
   out-of-range = λ f. absurd (true≢false (sym h ∙ f));
   written = λ _. subst (λ (z : Held). WrittenAs (certificateHeld s z) before r after) (sym e) w;
 }
+
+-- ---- how long it is
+
+-- With every table full: 39 + 16 × 512 + 3 × 128 + 9 × 512 bytes.
+certificate-short : (s : Session) → inRange s ≡ true → (g : ℕ) (r : Bool) → length (bytesOf (certificateOf s g r)) ≤ 13223
+certificate-short s h g true =
+    omega (arith, length-held s g true (contentsHeld s true) refl, few-flats s h, usable s h .count, few-rows s h true)
+certificate-short s h g false =
+    omega (arith, length-held s g false (contentsHeld s false) refl, few-flats s h, usable s h .count, few-rows s h false)
+
+pub held-short : (s : Session) → inRange s ≡ true → (v : Held) (x : Certificate) → certificateHeld s v ≡ some x → length (bytesOf x) ≤ 13223
+held-short s h held.Nothing x e = let z : _≡_ {A = ℕ} 0 1 = cc in absurd (omega arith)
+held-short s h (held.Valid g) x e = let same : certificateOf s g false ≡ x = cc in subst (λ y. length (bytesOf y) ≤ 13223) same (certificate-short s h g false)
+held-short s h (held.Refuted g) x e = let same : certificateOf s g true ≡ x = cc in subst (λ y. length (bytesOf y) ≤ 13223) same (certificate-short s h g true)

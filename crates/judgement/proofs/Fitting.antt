@@ -48,7 +48,7 @@ refusal-small s number place (range l r) = (omega arith, omega arith)
 refusal-small s number place (closing l r k) = (omega arith, omega arith)
 refusal-small s number place (claim l r k w) = (omega arith, place-small (problemOf s) (claimOf s) place r w)
 
-judgement-fits : (s : List ℕ) → length (checkReport (judge s)) ≤ longest
+pub judgement-fits : (s : List ℕ) → length (checkReport (judge s)) ≤ longest
 unfolding longest acceptedLine ascii
 judgement-fits s = go (judge s) refl
   where

@@ -13,8 +13,8 @@ fn write_accepted(draft: &mut [u8], refuting: bool) -> usize
     }
 }
 
-// A refusal has a place where it is of the claim.
-fn write_check(draft: &mut [u8], checked: Checked) -> usize
+// Writes the line of a judged certificate at the draft's beginning. A refusal has a place where it is of the claim.
+pub fn write(draft: &mut [u8], checked: Checked) -> usize
     ensures { λ r. ⌜ Appends (checkReportOf checked) (now (draft .entry)) 0 (now (draft .exit)) r ⌝ }
 {
     match checked {
@@ -29,6 +29,6 @@ pub fn judge(bytes: &[u8], more: usize, output: &mut [u8]) -> usize
     ensures { λ r. ⌜ Judged (now (bytes .entry)) more (now (output .entry)) (now (output .exit)) r ⌝ }
 {
     let mut draft = [0u8; text::DRAFT];
-    let n = write_check(&mut draft, certificate::check_beginning(bytes, more));
+    let n = write(&mut draft, certificate::check_beginning(bytes, more));
     text::hand_over(&draft, n, output)
 }

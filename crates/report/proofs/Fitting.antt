@@ -3,23 +3,26 @@ use mathlib.Core.List.{List, [], _∷_, _++_}
 use mathlib.Core.Logic.{inl, inr}
 use mathlib.Core.Path.{_≡_, ap, subst}
 use Prim.Native.Nat.{ℕ, _+_, _*_, _^_, _≤_, _<_, min}
+use native.Mathlib.Decide.{decLe}
 use native.Mathlib.Omega.{arith}
 use lib.Dec.{T, eqb}
 use lib.ListN.{length, length-append}
 use lib.Pow.{pow-mono}
 use Rattle.atoms.specs.Sets.{limit}
 use Rattle.atoms.proofs.Machine.{limit-small, set-digits}
+use Rattle.atoms.proofs.Truth.{by-cond}
 use Rattle.ipl.specs.Lists.{All}
 use Rattle.ipl.specs.Range.{atomOrBot}
 use Rattle.ipl.specs.Clause.{Flat, Implication}
 use Rattle.ipl.specs.Claim.{StepsRight}
 use Rattle.ipl.specs.Search.{Step, Outcome, valid, refuted, refused, unfinished}
-use Rattle.ipl.specs.Book.{Book, answer}
+use Rattle.ipl.specs.Book.{Book, goalRefusal, answer}
 use Rattle.ipl.proofs.Lists.{All-map}
 use Rattle.ipl.proofs.Search.{OutcomeRight}
 use Rattle.ipl.proofs.Limits.{Fits, Ended}
 use Rattle.ipl.proofs.Book.{Reached, goal-taken, answer-right, question-ended}
-use Rattle.prover.specs.Calls.{mostTotal}
+use Rattle.prover.specs.Calls.{mostTotal, totalAfter}
+use Rattle.prover.proofs.Answers.{answer-refused}
 use Rattle.syntax.specs.Grammar.{Tree}
 use Rattle.syntax.specs.Nodes.{nodes, named}
 use Rattle.syntax.specs.Refusal as text
@@ -91,14 +94,18 @@ search-refusal-short : (number : ℕ) → Ended (refused number) → length (tex
 search-refusal-short number (inl e) = omega (arith, refusal-length (eqb number 3) 1 3 number 0 (omega arith) (omega arith))
 search-refusal-short number (inr e) = omega (arith, refusal-length (eqb number 3) 1 3 number 0 (omega arith) (omega arith))
 
-module _ (k : Book) (g : ℕ) (r : Reached k) where
+goal-number : (k : Book) (g : ℕ) → goalRefusal k g ≤ 6
+unfolding goalRefusal
+goal-number k g = by-cond (λ (x : ℕ). x ≤ 6) (atomOrBot (k .n) g) 0 6 (λ _. omega arith) (λ _. omega arith)
+
+module _ (k : Book) (g total : ℕ) (r : Reached k) where
   few : k .n < 10 ^ 20
   few = omega (arith, r .well-formed .few, limit-small)
 
-  outcome-fits : (o : Outcome) → OutcomeRight (k .n) (k .flats) (k .implications) g (k .steps) o → Fits o → Ended o → length (printedEnd (k .n) o) ≤ longest
+  outcome-fits : (o : Outcome) → OutcomeRight (k .n) (k .flats) (k .implications) g (k .steps) o → Fits o → Ended o → length (printedEnd (k .n) total o) ≤ longest
   unfolding printedEnd validReport refutedReport ascii longest
   outcome-fits (valid end) right fits e =
-      let q = min (0 + end .questions) mostTotal in
+      let q = totalAfter total (end .questions) in
       let lines = steps-length (k .n) (k .flats) (k .implications) [] (end .steps) (r .well-formed .few) (r .well-formed .implication-count) (right .grown .steps) in
       omega (
         arith,
@@ -109,7 +116,7 @@ module _ (k : Book) (g : ℕ) (r : Reached k) where
         fits .0,
       )
   outcome-fits (refuted end) right fits e =
-      let q = min (0 + end .questions) mostTotal in
+      let q = totalAfter total (end .questions) in
       let lines = All-map (end .worlds) (λ w h. world-length w (set-short (k .n) w (r .well-formed .few) h)) (right .below) in
       omega (
         arith,
@@ -122,17 +129,22 @@ module _ (k : Book) (g : ℕ) (r : Reached k) where
   outcome-fits (refused number) right fits e = omega (arith, search-refusal-short number e)
   outcome-fits unfinished right fits e = absurd e
 
+  -- A goal out of range is refused at once.
+  pub answer-fits : length (printedEnd (k .n) total (answer k g)) ≤ longest
+  unfolding printedEnd longest
+  answer-fits = elim (decLe (goalRefusal k g) 0) [
+    | yes l ↦
+        let right = answer-right k g r in
+        outcome-fits (answer k g) (right .0) (right .1) (question-ended k g r (omega arith))
+    | no l ↦
+        rw (answer-refused k g (λ z. omega arith))
+        (omega (arith, goal-number k g, refusal-length (eqb (goalRefusal k g) 3) 1 3 (goalRefusal k g) 0 (omega (arith, goal-number k g)) (omega arith)))
+  ]
+
 text-ended : (t : Tree) → named (nodes t .table) ≤ 64 → Ended (answer (textBook t) (goalOf t))
 text-ended t few =
     let goal-ok : T (atomOrBot (textBook t .n) (goalOf t)) = rw (ap (λ (b : Book). b .n) (text-book t few)) (goal-in-range t few) in
     question-ended (textBook t) (goalOf t) (text-reached t) (goal-taken (textBook t) (goalOf t) goal-ok)
-
-tree-fits : (t : Tree) → named (nodes t .table) ≤ 64 → length (printedEnd (textBook t .n) (answer (textBook t) (goalOf t))) ≤ longest
-tree-fits t few =
-    let k = textBook t in
-    let r = text-reached t in
-    let right = answer-right k (goalOf t) r in
-    outcome-fits k (goalOf t) r (answer k (goalOf t)) (right .0) (right .1) (text-ended t few)
 
 -- The place of a refused text is at most its length, which is at most 4,096 where the place is not 0.
 refused-fits : (s : List ℕ) (number place : ℕ) → text.Refused s number place → (number ≤ 4) × (place ≤ 4096)
@@ -143,7 +155,7 @@ refused-fits s number place (text.line-3 h k l m) =
     (omega arith, omega (arith, m .within))
 refused-fits s number place (text.line-4 h k l m) = (omega arith, omega arith)
 
-text-refusal-short : (s : List ℕ) (number place : ℕ) → text.Refused s number place → length (textRefusal number place) ≤ 19
+pub text-refusal-short : (s : List ℕ) (number place : ℕ) → text.Refused s number place → length (textRefusal number place) ≤ 19
 text-refusal-short s number place h =
     let b = refused-fits s number place h in
     omega (arith, refusal-length (eqb number 3) 1 3 number place (omega (arith, b .0)) (omega (arith, b .1)))
@@ -154,7 +166,7 @@ printed-fits s = by-judgement (judge s) (judge-right s)
   where
     by-judgement : (j : Judgement) → Right s j → length (printedAs j) ≤ longest
     by-judgement (judgement.refused number place) h = omega (arith, text-refusal-short s number place h)
-    by-judgement (judgement.accepted t) h = tree-fits t (omega (arith, h .size-right))
+    by-judgement (judgement.accepted t) h = answer-fits (textBook t) (goalOf t) 0 (text-reached t)
 
 -- So it is given whole, or the output is too short.
 pub report-given : {entry exit : List ℕ} {n : ℕ} (s : List ℕ) (r : Settled) → SettledAs (judge s) r → Reported (reportOf r) entry exit n → Gives (printed s) entry exit n
@@ -166,7 +178,7 @@ pub no-sheet-short : (s : List ℕ) → sheet s ≡ [] → length (printed s) �
 unfolding printed printedAs printedEnd sheet sheetAs sheetBytes claimOfVerdict encode contents
 no-sheet-short s = by-judgement (judge s) (judge-right s)
   where
-    no-claim : (k : Book) (g : ℕ) (o : Outcome) → Ended o → sheetBytes k g (claimOfVerdict k o) ≡ [] → length (printedEnd (k .n) o) ≤ 19
+    no-claim : (k : Book) (g : ℕ) (o : Outcome) → Ended o → sheetBytes k g (claimOfVerdict k o) ≡ [] → length (printedEnd (k .n) 0 o) ≤ 19
     no-claim k g (valid end) e n = let z : _≡_ {A = ℕ} 0 1 = cc in absurd (omega arith)
     no-claim k g (refuted end) e n = let z : _≡_ {A = ℕ} 0 1 = cc in absurd (omega arith)
     no-claim k g (refused number) e n = search-refusal-short number e

@@ -22,30 +22,28 @@ use Rattle.clausify.proofs.TextBook.{text-reached}
 use Rattle.report.specs.Report.{validReport, refutedReport, reportBy, reportOf}
 use Rattle.report.specs.Printed.{printedEnd, printedAs, printed}
 
-module _ (t : Tree) (r : Settled) (u : Session) (holds : Holds t u (r .goal)) where
-  abbrev answered : Answered
-  answered = record { verdict = r .verdict; session = r .session }
-
-  by-outcome : (o : Outcome) → AskedAs u (r .goal) o answered → reportOf r ≡ printedEnd (u .n) o
+-- The report of an answer to a question is that of the search's outcome.
+module _ (s : Session) (g : ℕ) (r : Answered) where
+  pub answer-printed : (o : Outcome) → AskedAs s g o r → reportBy (r .verdict) (r .session) ≡ printedEnd (s .n) (s .total) o
   unfolding printedEnd
-  by-outcome (valid end) a =
-      let kept = a .1 .holds in
+  answer-printed (valid end) a =
       ap (λ (v : Verdict). reportBy v (r .session)) (a .0 .verdict)
-      ∙ ap (λ (k : Book). validReport (k .n) (r .session .total) (k .steps)) kept
-      ∙ ap (λ (q : ℕ). validReport (u .n) q (end .steps)) (a .1 .total ∙ ap (λ (q : ℕ). totalAfter q (end .questions)) (holds .nothing .same-total))
-  by-outcome (refuted end) a =
-      let kept = a .1 .holds in
+      ∙ ap₂ (λ (k : Book) (q : ℕ). validReport (k .n) q (k .steps)) (a .1 .holds) (a .1 .total)
+  answer-printed (refuted end) a =
       ap (λ (v : Verdict). reportBy v (r .session)) (a .0 .verdict)
-      ∙ ap₂ (λ (k : Book) (W : List ℕ). refutedReport (k .n) (r .session .total) (length (k .steps)) W) kept (a .0 .shows)
-      ∙ ap (λ (q : ℕ). refutedReport (u .n) q (length (end .steps)) (end .worlds)) (a .1 .total ∙ ap (λ (q : ℕ). totalAfter q (end .questions)) (holds .nothing .same-total))
-  by-outcome (refused number) a = ap (λ (v : Verdict). reportBy v (r .session)) (a .0)
-  by-outcome unfinished a = absurd (a .0)
+      ∙ ap₂ (λ (k : Book) (W : List ℕ). refutedReport (k .n) (r .session .total) (length (k .steps)) W) (a .1 .holds) (a .0 .shows)
+      ∙ ap (λ (q : ℕ). refutedReport (s .n) q (length (end .steps)) (end .worlds)) (a .1 .total)
+  answer-printed (refused number) a = ap (λ (v : Verdict). reportBy v (r .session)) (a .0)
+  answer-printed unfinished a = absurd (a .0)
 
-  answer-printed : Asked u (r .goal) answered → reportOf r ≡ printedEnd (textBook t .n) (answer (textBook t) (goalOf t))
-  answer-printed a =
-      let reached : Reached (book u) = subst Reached (sym (holds .clauses)) (text-reached t) in
-      by-outcome (answer (book u) (r .goal)) (asked-as u (nothing-in-range 0 u reached (holds .nothing)) reached (r .goal) answered a)
-      ∙ ap₂ (λ (k : Book) (g : ℕ). printedEnd (k .n) (answer k g)) (holds .clauses) (holds .goal)
+settled-printed : (t : Tree) (r : Settled) (s : Session) → Holds t s (r .goal) → Asked s (r .goal) (record { verdict = r .verdict; session = r .session })
+    → reportOf r ≡ printedEnd (textBook t .n) 0 (answer (textBook t) (goalOf t))
+settled-printed t r s holds a =
+    let x : Answered = record { verdict = r .verdict; session = r .session } in
+    let reached : Reached (book s) = subst Reached (sym (holds .clauses)) (text-reached t) in
+    answer-printed s (r .goal) x (answer (book s) (r .goal)) (asked-as s (nothing-in-range 0 s reached (holds .nothing)) reached (r .goal) x a)
+    ∙ ap (λ (q : ℕ). printedEnd (s .n) q (answer (book s) (r .goal))) (holds .nothing .same-total)
+    ∙ ap₂ (λ (k : Book) (g : ℕ). printedEnd (k .n) 0 (answer k g)) (holds .clauses) (holds .goal)
 
 -- The program's output, from bytes to bytes.
 pub report-printed : (s : List ℕ) (r : Settled) → SettledAs (judge s) r → reportOf r ≡ printed s
@@ -54,4 +52,4 @@ report-printed s r = by-judgement (judge s)
   where
     by-judgement : (j : Judgement) → SettledAs j r → reportOf r ≡ printedAs j
     by-judgement (judgement.refused number place) h = ap (λ (v : Verdict). reportBy v (r .session)) (h .0)
-    by-judgement (judgement.accepted t) h = answer-printed t r (h .0) (h .1) (h .2)
+    by-judgement (judgement.accepted t) h = settled-printed t r (h .0) (h .1) (h .2)

@@ -14,16 +14,17 @@ use Rattle.certificate.specs.Format.{encode}
 use Rattle.certificate.specs.Written.{problemOfBook, claimOfVerdict}
 use Rattle.report.specs.Report.{textRefusal, validReport, refutedReport}
 
--- By the outcome of the search over n atoms. The search always ends (`search-ends` of `ipl`), so the last line is never met.
-unfoldable pub printedEnd : ℕ → Outcome → List ℕ
-printedEnd n (valid end) = validReport n (totalAfter 0 (end .questions)) (end .steps)
-printedEnd n (refuted end) = refutedReport n (totalAfter 0 (end .questions)) (length (end .steps)) (end .worlds)
-printedEnd n (refused number) = textRefusal number 0
-printedEnd n unfinished = []
+-- By the outcome of the search over n atoms, where so many questions were put before. The search always ends (`search-ends` of
+-- `ipl`), so the last line is never met.
+unfoldable pub printedEnd : ℕ → ℕ → Outcome → List ℕ
+printedEnd n total (valid end) = validReport n (totalAfter total (end .questions)) (end .steps)
+printedEnd n total (refuted end) = refutedReport n (totalAfter total (end .questions)) (length (end .steps)) (end .worlds)
+printedEnd n total (refused number) = textRefusal number 0
+printedEnd n total unfinished = []
 
 unfoldable pub printedAs : Judgement → List ℕ
 printedAs (judgement.refused number place) = textRefusal number place
-printedAs (judgement.accepted t) = printedEnd (textBook t .n) (answer (textBook t) (goalOf t))
+printedAs (judgement.accepted t) = printedEnd (textBook t .n) 0 (answer (textBook t) (goalOf t))
 
 unfoldable pub printed : List ℕ → List ℕ
 printed s = printedAs (judge s)

@@ -1,10 +1,10 @@
-// What is printed of a settled text.
+// What is printed of a verdict, and of a settled text.
 use clausify::Settled;
 use prover::Session;
 use prover::Verdict;
 ghost use lib.ListN.{length};
 ghost use Rattle.prover.specs.State.{stepsOf, worldsOf};
-ghost use Rattle.report.specs.Report.{validReport, refutedReport, reportOf};
+ghost use Rattle.report.specs.Report.{validReport, refutedReport, reportBy, reportOf};
 ghost use Rattle.text.specs.Output.{Appends, Reported};
 
 mod lines;
@@ -27,13 +27,13 @@ fn write_refuted(draft: &mut [u8], s: Session) -> usize
     lines::worlds(draft, second, worlds)
 }
 
-fn write_report(draft: &mut [u8], settled: Settled) -> usize
-    ensures { λ r. ⌜ Appends (reportOf settled) (now (draft .entry)) 0 (now (draft .exit)) r ⌝ }
+// Writes the report of a verdict and the session that holds it at the draft's beginning.
+pub fn write(draft: &mut [u8], verdict: Verdict, s: Session) -> usize
+    ensures { λ r. ⌜ Appends (reportBy verdict s) (now (draft .entry)) 0 (now (draft .exit)) r ⌝ }
 {
-    let verdict = settled.verdict;
     match verdict {
-        Verdict::Valid(_) => write_valid(draft, settled.session),
-        Verdict::Refuted(_) => write_refuted(draft, settled.session),
+        Verdict::Valid(_) => write_valid(draft, s),
+        Verdict::Refuted(_) => write_refuted(draft, s),
         Verdict::Refused(number, place) => text::refusal(draft, number, place, number == 3),
     }
 }
@@ -43,6 +43,7 @@ pub fn report(settled: Settled, output: &mut [u8]) -> usize
     ensures { λ r. ⌜ Reported (reportOf settled) (now (output .entry)) (now (output .exit)) r ⌝ }
 {
     let mut draft = [0u8; text::DRAFT];
-    let n = write_report(&mut draft, settled);
+    let verdict = settled.verdict;
+    let n = write(&mut draft, verdict, settled.session);
     text::hand_over(&draft, n, output)
 }

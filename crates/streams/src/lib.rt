@@ -10,8 +10,8 @@ pub enum Input {
     Failed,
 }
 
-// One read; 0 at the end of the input.
-fn read_some(buffer: &mut [u8]) -> Input
+// One read of standard input; 0 bytes at its end.
+pub fn read_some(buffer: &mut [u8]) -> Input
     ensures { λ r. ⌜ Within r (now (buffer .exit)) ⌝ }
 {
     let got = libc::read(STDIN_FILENO, buffer);

@@ -4,7 +4,7 @@ use mathlib.Core.List.{List, [], _∷_, _++_}
 use Prim.Native.Char.{code}
 use Prim.Native.Nat.{ℕ, zero, suc, _+_, _/_, _%_}
 use Prim.Native.String.{String, [] as []ˢ, _∷_ as _∷ˢ_}
-use lib.Dec.{eqb}
+use lib.Dec.{eqb, ltb}
 
 -- The bytes of a text of ASCII characters.
 unfoldable pub ascii : String → List ℕ
@@ -22,6 +22,15 @@ decimalWithin (suc most) x = cond (eqb (x / 10) 0) [] (decimalWithin most (x / 1
 -- A number in base ten; x never has more than suc x digits.
 unfoldable pub decimal : ℕ → List ℕ
 decimal x = decimalWithin (suc x) x
+
+-- A digit in base sixteen: `0` to `9`, then `a` to `f`.
+unfoldable pub hexDigit : ℕ → ℕ
+hexDigit d = cond (ltb d 10) (48 + d) (87 + d)
+
+-- Bytes in base sixteen, two digits each.
+unfoldable pub hex : List ℕ → List ℕ
+hex [] = []
+hex (b ∷ bytes) = hexDigit (b / 16) ∷ hexDigit (b % 16) ∷ hex bytes
 
 -- A number after a label.
 abbrev pub labelled : String → ℕ → List ℕ

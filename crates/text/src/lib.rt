@@ -3,10 +3,10 @@
 use atoms::AtomSet;
 ghost use mathlib.Core.List.{List, [], _∷_, _++_};
 ghost use mathlib.Core.Path.{_≡_};
-ghost use Prim.Native.Nat.{ℕ};
+ghost use Prim.Native.Nat.{ℕ, _<_};
 ghost use lib.ListN.{length};
 ghost use Rattle.atoms.specs.Words.{num};
-ghost use Rattle.text.specs.Text.{decimal, refusal};
+ghost use Rattle.text.specs.Text.{decimal, hexDigit, hex, refusal};
 ghost use Rattle.text.specs.Output.{draft, Begins, Appends, Reported};
 
 // The bytes of a draft.
@@ -29,6 +29,33 @@ pub fn word(text: &mut [u8], at: usize, bytes: &[u8]) -> usize
     let mut i = 0;
     while i < bytes.len() {
         end = byte(text, end, bytes[i]);
+        i += 1;
+    }
+    end
+}
+
+fn hex_digit(d: u8) -> u8
+    requires { ⌜ d < 16 ⌝ }
+    ensures { λ r. ⌜ r ≡ hexDigit d ⌝ }
+{
+    if d < 10 { 48 + d } else { 87 + d }
+}
+
+fn hex_byte(text: &mut [u8], at: usize, b: u8) -> usize
+    ensures { λ r. ⌜ Appends (hex (b ∷ [])) (now (text .entry)) at (now (text .exit)) r ⌝ }
+{
+    let end = byte(text, at, hex_digit(b / 16));
+    byte(text, end, hex_digit(b % 16))
+}
+
+// Bytes in base sixteen, two digits each.
+pub fn hex(text: &mut [u8], at: usize, bytes: &[u8]) -> usize
+    ensures { λ r. ⌜ Appends (hex (now (bytes .entry))) (now (text .entry)) at (now (text .exit)) r ⌝ }
+{
+    let mut end = at;
+    let mut i = 0;
+    while i < bytes.len() {
+        end = hex_byte(text, end, bytes[i]);
         i += 1;
     }
     end

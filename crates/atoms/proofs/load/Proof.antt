@@ -4,12 +4,9 @@ use Rattle.atoms.specs.Words.{num}
 use Rattle.atoms.proofs.load.Statement.{statement}
 use Rattle.atoms.proofs.load.Tie as tie
 
-number-requires : tie.Need-number-requires
-number-requires c κs = search needs
-
 returns : tie.Need-returns
 unfolding num
 returns c = c .number .ensures .is
 
 pub load-spec : {M : Type 1} → statement M
-load-spec = tie.close (tie.spec number-requires returns)
+load-spec = tie.close (tie.spec (λ c κs. search needs) returns)

@@ -4,15 +4,9 @@ use Rattle.atoms.specs.Words.{num}
 use Rattle.atoms.proofs.store.Statement.{statement}
 use Rattle.atoms.proofs.store.Tie as tie
 
-put-requires : tie.Need-put-requires
-put-requires c κs = search needs
-
-same-length : tie.Need-same-length
-same-length c = search needs
-
 returns : tie.Need-returns
 unfolding num
 returns c = c .before .before .put .ensures
 
 pub store-spec : {M : Type 1} → statement M
-store-spec = tie.close (tie.spec put-requires same-length returns)
+store-spec = tie.close (tie.spec (λ c κs. search needs) (λ c. search needs) returns)

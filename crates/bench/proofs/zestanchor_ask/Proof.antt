@@ -6,28 +6,10 @@ use Rattle.sat.specs.Answer.{answerOf}
 use Rattle.bench.proofs.zestanchor_ask.Statement.{statement}
 use Rattle.bench.proofs.zestanchor_ask.Tie as tie
 
-row-requires : tie.Need-row-requires
-row-requires c κs = search needs
-
-ask-requires : tie.Need-ask-requires
-ask-requires c κs = search needs
-
-enum-told : tie.Need-enum-told
-enum-told c = search needs
-
-enum-known-m : tie.Need-enum-known-m
-enum-known-m c = search needs
-
-set-row-requires : tie.Need-set-row-requires
-set-row-requires c κs = search needs
-
 returns : tie.Need-returns
 returns c =
     let a = c .before .before in
     (rw (← a .before .row .ensures) (sym (a .ask .ensures) ∙ ap answerOf (c .enum-told .given .1)), refl)
-
-same-length : tie.Need-same-length
-same-length c = search needs
 
 returns-2 : tie.Need-returns-2
 returns-2 c =
@@ -39,11 +21,11 @@ pub zestanchor-ask-spec : {M : Type 1} → statement M
 zestanchor-ask-spec =
     tie.close
     (tie.spec
-    row-requires
-    ask-requires
-    enum-told
-    enum-known-m
-    set-row-requires
+    (λ c κs. search needs)
+    (λ c κs. search needs)
+    (λ c. search needs)
+    (λ c. search needs)
+    (λ c κs. search needs)
     returns
-    same-length
+    (λ c. search needs)
     returns-2)

@@ -13,17 +13,8 @@ use Rattle.certificate.proofs.check.Tie as tie
 found : (c : tie.After-k) → LayoutRead (c .before .before .before .before .args .bytes .now) (Read (c .k .given .0 .0))
 found c = subst (LayoutRead _) (c .k .given .1) (c .before .before .read .ensures)
 
-read-requires : tie.Need-read-requires
-read-requires c κs = search needs
-
-enum-known-k : tie.Need-enum-known-k
-enum-known-k c = search needs
-
 check-bodies-requires : tie.Need-check-bodies-requires
 check-bodies-requires c κs = found (c .before) .size
-
-enum-known-number : tie.Need-enum-known-number
-enum-known-number c = search needs
 
 returns : tie.Need-returns
 returns c = c .check-bodies .ensures ∙ laid _ _ (found (c .before .before))
@@ -36,4 +27,4 @@ returns-2 c =
 pub check-spec : {M : Type 1} → statement M
 check-spec =
     tie.close
-    (tie.spec read-requires enum-known-k check-bodies-requires enum-known-number returns returns-2)
+    (tie.spec (λ c κs. search needs) (λ c. search needs) check-bodies-requires (λ c. search needs) returns returns-2)

@@ -6,20 +6,8 @@ use Rattle.certificate.proofs.Beginning.{beginning-whole, beginning-unl
 use Rattle.certificate.proofs.check_beginning.Statement.{statement}
 use Rattle.certificate.proofs.check_beginning.Tie as tie
 
-check-requires : tie.Need-check-requires
-check-requires c κs = search needs
-
 returns : tie.Need-returns
 returns c = beginning-whole _ _ (c .before .if1 .taken) (c .check .result) (c .check .ensures)
-
-read-beginning-requires : tie.Need-read-beginning-requires
-read-beginning-requires c κs = search needs
-
-enum-told : tie.Need-enum-told
-enum-told c = search needs
-
-enum-known-number : tie.Need-enum-known-number
-enum-known-number c = search needs
 
 returns-2 : tie.Need-returns-2
 returns-2 c =
@@ -36,10 +24,10 @@ pub check-beginning-spec : {M : Type 1} → statement M
 check-beginning-spec =
     tie.close
     (tie.spec
-    check-requires
+    (λ c κs. search needs)
     returns
-    read-beginning-requires
-    enum-told
-    enum-known-number
+    (λ c κs. search needs)
+    (λ c. search needs)
+    (λ c. search needs)
     returns-2
     returns-3)

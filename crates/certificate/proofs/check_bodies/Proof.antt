@@ -9,9 +9,6 @@ use Rattle.certificate.proofs.Judging.{unranged, unclosed, claimed}
 use Rattle.certificate.proofs.check_bodies.Statement.{statement}
 use Rattle.certificate.proofs.check_bodies.Tie as tie
 
-in-range-requires : tie.Need-in-range-requires
-in-range-requires c κs = search needs
-
 returns : tie.Need-returns
 returns c = unranged _ _ (sym (c .before .in-range .ensures) ∙ not-true _ (c .if1 .taken))
 
@@ -27,12 +24,6 @@ wrong-place-requires : tie.Need-wrong-place-requires
 wrong-place-requires c κs =
     let ranged = c .before .before in
     record { sized = ranged .before .before .before .pre; ranged = true-T (sym (ranged .before .in-range .ensures) ∙ not-false _ (ranged .if1 .left)) }
-
-enum-told : tie.Need-enum-told
-enum-told c = search needs
-
-enum-known-place : tie.Need-enum-known-place
-enum-known-place c = search needs
 
 returns-3 : tie.Need-returns-3
 unfolding judgeClaim
@@ -56,12 +47,12 @@ pub check-bodies-spec : {M : Type 1} → statement M
 check-bodies-spec =
     tie.close
     (tie.spec
-    in-range-requires
+    (λ c κs. search needs)
     returns
     all-closed-requires
     returns-2
     wrong-place-requires
-    enum-told
-    enum-known-place
+    (λ c. search needs)
+    (λ c. search needs)
     returns-3
     returns-4)

@@ -17,12 +17,6 @@ use Rattle.certificate.proofs.wrong_place.Tie as tie
 abbrev place : List ℕ → Contents → Bool → Option ℕ
 place s k r = wrongPlace (problemBy s k) (claimIn s (claimStart (k .flats) (k .implications)) r (k .rows))
 
-wrong-world-requires : tie.Need-wrong-world-requires
-wrong-world-requires c κs = search needs
-
-wrong-step-requires : tie.Need-wrong-step-requires
-wrong-step-requires c κs = search needs
-
 returns : tie.Need-returns
 unfolding claimIn
 returns c =
@@ -36,4 +30,4 @@ returns-2 c =
     c .wrong-step .ensures ∙ ap (place (given .bytes .now) (given .k)) (sym (c .before .if1 .left))
 
 pub wrong-place-spec : {M : Type 1} → statement M
-wrong-place-spec = tie.close (tie.spec wrong-world-requires wrong-step-requires returns returns-2)
+wrong-place-spec = tie.close (tie.spec (λ c κs. search needs) (λ c κs. search needs) returns returns-2)

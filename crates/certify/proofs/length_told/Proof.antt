@@ -5,12 +5,6 @@ use Rattle.certify.proofs.Whole.{told-in-range}
 use Rattle.certify.proofs.length_told.Statement.{statement}
 use Rattle.certify.proofs.length_told.Tie as tie
 
-in-range-requires : tie.Need-in-range-requires
-in-range-requires c κs = search needs
-
-length-bound-requires : tie.Need-length-bound-requires
-length-bound-requires c κs = search needs
-
 returns : tie.Need-returns
 returns c = told-in-range _ _ (sym (c .before .before .in-range .ensures) ∙ c .before .if1 .taken) (c .length-bound .ensures)
 
@@ -18,4 +12,4 @@ returns-2 : tie.Need-returns-2
 returns-2 c = rw (← c .before .in-range .ensures, c .if1 .left)
 
 pub length-told-spec : {M : Type 1} → statement M
-length-told-spec = tie.close (tie.spec in-range-requires length-bound-requires returns returns-2)
+length-told-spec = tie.close (tie.spec (λ c κs. search needs) (λ c κs. search needs) returns returns-2)

@@ -13,23 +13,11 @@ use Rattle.certify.proofs.write.Tie as tie
 ranged : (c : tie.Else1) → inRange (c .before .before .before .args .s) ≡ true
 ranged c = sym (c .before .in-range .ensures) ∙ not-false (c .before .in-range .result) (c .if1 .left)
 
-in-range-requires : tie.Need-in-range-requires
-in-range-requires c κs = search needs
-
 returns : tie.Need-returns
 returns c = refused-five _ _ (sym (c .before .in-range .ensures) ∙ not-true (c .before .in-range .result) (c .if1 .taken))
 
-enum-told : tie.Need-enum-told
-enum-told c = search needs
-
-enum-known-held : tie.Need-enum-known-held
-enum-known-held c = search needs
-
 write-requires : tie.Need-write-requires
 write-requires c κs = ranged (c .before .before .before .before)
-
-enum-known-held-2 : tie.Need-enum-known-held-2
-enum-known-held-2 c = search needs
 
 write-requires-2 : tie.Need-write-requires-2
 write-requires-2 c κs = ranged (c .before .before .before .before)
@@ -37,16 +25,10 @@ write-requires-2 c κs = ranged (c .before .before .before .before)
 returns-2 : tie.Need-returns-2
 returns-2 c = verdict-written _ _ _ _ held.Nothing (ranged (c .before .before)) (c .enum-told .given .1) (record { answer = refl; buffer = refl })
 
-same-length : tie.Need-same-length
-same-length c = search needs
-
 returns-3 : tie.Need-returns-3
 returns-3 c =
     let put = c .before .before in
     verdict-written _ _ _ _ (held.Valid _) (ranged (put .before .before .before .before .before)) (put .before .before .before .held .given .1) (put .write .ensures)
-
-same-length-2 : tie.Need-same-length-2
-same-length-2 c = search needs
 
 returns-4 : tie.Need-returns-4
 returns-4 c =
@@ -57,15 +39,15 @@ pub write-spec : {M : Type 1} → statement M
 write-spec =
     tie.close
     (tie.spec
-    in-range-requires
+    (λ c κs. search needs)
     returns
-    enum-told
-    enum-known-held
+    (λ c. search needs)
+    (λ c. search needs)
     write-requires
-    enum-known-held-2
+    (λ c. search needs)
     write-requires-2
     returns-2
-    same-length
+    (λ c. search needs)
     returns-3
-    same-length-2
+    (λ c. search needs)
     returns-4)

@@ -10,18 +10,6 @@ use Rattle.clausify.proofs.clausify.Tie as tie
 atoms-size : (c : tie.After-names-of) → length (c .names-of .result .atoms) ≡ room
 atoms-size c = search needs
 
-read-requires : tie.Need-read-requires
-read-requires c κs = search needs
-
-enum-known-outcome : tie.Need-enum-known-outcome
-enum-known-outcome c = search needs
-
-open-requires : tie.Need-open-requires
-open-requires c κs = search needs
-
-enum-known-outcome-2 : tie.Need-enum-known-outcome-2
-enum-known-outcome-2 c = search needs
-
 names-of-requires : tie.Need-names-of-requires
 names-of-requires c κs =
     let reading = c .before .before .before .before .read in
@@ -31,9 +19,6 @@ session-of-requires : tie.Need-session-of-requires
 session-of-requires c κs =
     let reading = c .before .before .before .before .before .read in
     read-nameable _ _ _ (read-as _ (reading .result .outcome) _ (reading .ensures) _ (c .before .before .outcome2 .given .1)) _ (c .names-of .ensures)
-
-cast-t14 : tie.Need-cast-t14
-cast-t14 c = search needs
 
 element-copy-out-t17 : tie.Need-element-copy-out-t17
 element-copy-out-t17 c =
@@ -58,13 +43,13 @@ pub clausify-spec : {M : Type 1} → statement M
 clausify-spec =
     tie.close
     (tie.spec
-    read-requires
-    enum-known-outcome
-    open-requires
-    enum-known-outcome-2
+    (λ c κs. search needs)
+    (λ c. search needs)
+    (λ c κs. search needs)
+    (λ c. search needs)
     names-of-requires
     session-of-requires
-    cast-t14
+    (λ c. search needs)
     element-copy-out-t17
     returns
     returns-2)

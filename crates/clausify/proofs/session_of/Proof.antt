@@ -7,23 +7,8 @@ use borrow.Author.Needs.{needs}
 use Rattle.clausify.proofs.session_of.Statement.{statement}
 use Rattle.clausify.proofs.session_of.Tie as tie
 
-atom-count-requires : tie.Need-atom-count-requires
-atom-count-requires c κs = search needs
-
-open-requires : tie.Need-open-requires
-open-requires c κs = search needs
-
-slice-aggregate-write : tie.Need-slice-aggregate-write
-slice-aggregate-write c = search needs
-
-slice-aggregate-write-2 : tie.Need-slice-aggregate-write-2
-slice-aggregate-write-2 c = search needs
-
 write-requires : tie.Need-write-requires
 write-requires c κs = (c .before .before .before .before .before .pre, row-count-words _ flatTable refl, row-count-words _ flatTable refl)
-
-implications-of-requires : tie.Need-implications-of-requires
-implications-of-requires c κs = search needs
 
 returns : tie.Need-returns
 returns c =
@@ -40,10 +25,10 @@ pub session-of-spec : {M : Type 1} → statement M
 session-of-spec =
     tie.close
     (tie.spec
-    atom-count-requires
-    open-requires
-    slice-aggregate-write
-    slice-aggregate-write-2
+    (λ c κs. search needs)
+    (λ c κs. search needs)
+    (λ c. search needs)
+    (λ c. search needs)
     write-requires
-    implications-of-requires
+    (λ c κs. search needs)
     returns)

@@ -7,12 +7,6 @@ use borrow.Author.Needs.{needs}
 use Rattle.clausify.proofs.settle.Statement.{statement}
 use Rattle.clausify.proofs.settle.Tie as tie
 
-clausify-requires : tie.Need-clausify-requires
-clausify-requires c κs = search needs
-
-ask-requires : tie.Need-ask-requires
-ask-requires c κs = search needs
-
 returns : tie.Need-returns
 returns c =
     let problem = c .before .before .before .before in
@@ -26,4 +20,4 @@ returns-2 c =
     settled-refused (judge (now (problem .before .before .args .text))) (problem .clausify .result) (problem .clausify .ensures) (c .before .if1 .left)
 
 pub settle-spec : {M : Type 1} → statement M
-settle-spec = tie.close (tie.spec clausify-requires ask-requires returns returns-2)
+settle-spec = tie.close (tie.spec (λ c κs. search needs) (λ c κs. search needs) returns returns-2)

@@ -5,9 +5,6 @@ use borrow.Author.Needs.{needs}
 use Rattle.ipl.proofs.count_in_range.Statement.{statement}
 use Rattle.ipl.proofs.count_in_range.Tie as tie
 
-fits-requires : tie.Need-fits-requires
-fits-requires c κs = search needs
-
 returns : tie.Need-returns
 unfolding countInRange
 returns c = rw (le-leb _ _ (c .before .if1 .taken)) (c .fits2 .ensures)
@@ -17,4 +14,4 @@ unfolding countInRange
 returns-2 c = rw (lt-leb _ _ (c .if1 .left))
 
 pub count-in-range-spec : {M : Type 1} → statement M
-count-in-range-spec = tie.close (tie.spec fits-requires returns returns-2)
+count-in-range-spec = tie.close (tie.spec (λ c κs. search needs) returns returns-2)

@@ -5,12 +5,6 @@ use borrow.Author.Needs.{needs}
 use Rattle.ipl.proofs.flat_in_range.Statement.{statement}
 use Rattle.ipl.proofs.flat_in_range.Tie as tie
 
-set-in-range-requires : tie.Need-set-in-range-requires
-set-in-range-requires c κs = search needs
-
-set-in-range-requires-2 : tie.Need-set-in-range-requires-2
-set-in-range-requires-2 c κs = search needs
-
 returns : tie.Need-returns
 unfolding flatInRange
 returns c = rw (sym (c .before .before .set-in-range .ensures) ∙ c .before .if1 .taken) (c .set-in-range2 .ensures)
@@ -21,4 +15,4 @@ returns-2 c = rw (sym (c .before .set-in-range .ensures) ∙ c .if1 .left)
 
 pub flat-in-range-spec : {M : Type 1} → statement M
 flat-in-range-spec =
-    tie.close (tie.spec set-in-range-requires set-in-range-requires-2 returns returns-2)
+    tie.close (tie.spec (λ c κs. search needs) (λ c κs. search needs) returns returns-2)

@@ -6,12 +6,6 @@ use borrow.Author.Needs.{needs}
 use Rattle.ipl.proofs.implication_in_range.Statement.{statement}
 use Rattle.ipl.proofs.implication_in_range.Tie as tie
 
-atom-or-bottom-requires : tie.Need-atom-or-bottom-requires
-atom-or-bottom-requires c κs = search needs
-
-atom-or-bottom-requires-2 : tie.Need-atom-or-bottom-requires-2
-atom-or-bottom-requires-2 c κs = search needs
-
 returns : tie.Need-returns
 unfolding implicationInRange
 returns c =
@@ -31,4 +25,4 @@ returns-3 c = rw (le-ltb _ _ (c .if1 .left))
 pub implication-in-range-spec : {M : Type 1} → statement M
 implication-in-range-spec =
     tie.close
-    (tie.spec atom-or-bottom-requires atom-or-bottom-requires-2 returns returns-2 returns-3)
+    (tie.spec (λ c κs. search needs) (λ c κs. search needs) returns returns-2 returns-3)

@@ -5,9 +5,6 @@ use borrow.Author.Needs.{needs}
 use Rattle.ipl.proofs.step_in_range.Statement.{statement}
 use Rattle.ipl.proofs.step_in_range.Tie as tie
 
-set-in-range-requires : tie.Need-set-in-range-requires
-set-in-range-requires c κs = search needs
-
 returns : tie.Need-returns
 unfolding stepInRange
 returns c = rw (lt-ltb _ _ (c .before .if1 .taken)) (c .set-in-range .ensures)
@@ -17,4 +14,4 @@ unfolding stepInRange
 returns-2 c = rw (le-ltb _ _ (c .if1 .left))
 
 pub step-in-range-spec : {M : Type 1} → statement M
-step-in-range-spec = tie.close (tie.spec set-in-range-requires returns returns-2)
+step-in-range-spec = tie.close (tie.spec (λ c κs. search needs) returns returns-2)

@@ -5,9 +5,6 @@ use borrow.Author.Needs.{needs}
 use Rattle.prover.proofs.add_flat.Statement.{statement}
 use Rattle.prover.proofs.add_flat.Tie as tie
 
-flat-refusal-requires : tie.Need-flat-refusal-requires
-flat-refusal-requires c κs = search needs
-
 with-flat-requires : tie.Need-with-flat-requires
 with-flat-requires c κs = sym (c .before .flat-refusal .ensures) ∙ c .if1 .taken
 
@@ -18,4 +15,4 @@ returns-2 : tie.Need-returns-2
 returns-2 c = addition-refused _ _ _ _ (c .before .flat-refusal .ensures) (c .if1 .left)
 
 pub add-flat-spec : {M : Type 1} → statement M
-add-flat-spec = tie.close (tie.spec flat-refusal-requires with-flat-requires returns returns-2)
+add-flat-spec = tie.close (tie.spec (λ c κs. search needs) with-flat-requires returns returns-2)

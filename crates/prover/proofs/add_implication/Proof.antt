@@ -5,9 +5,6 @@ use borrow.Author.Needs.{needs}
 use Rattle.prover.proofs.add_implication.Statement.{statement}
 use Rattle.prover.proofs.add_implication.Tie as tie
 
-implication-refusal-requires : tie.Need-implication-refusal-requires
-implication-refusal-requires c κs = search needs
-
 with-implication-requires : tie.Need-with-implication-requires
 with-implication-requires c κs = sym (c .before .implication-refusal .ensures) ∙ c .if1 .taken
 
@@ -19,4 +16,4 @@ returns-2 c = addition-refused _ _ _ _ (c .before .implication-refusal .ensures)
 
 pub add-implication-spec : {M : Type 1} → statement M
 add-implication-spec =
-    tie.close (tie.spec implication-refusal-requires with-implication-requires returns returns-2)
+    tie.close (tie.spec (λ c κs. search needs) with-implication-requires returns returns-2)

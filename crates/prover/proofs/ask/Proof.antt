@@ -5,9 +5,6 @@ use borrow.Author.Needs.{needs}
 use Rattle.prover.proofs.ask.Statement.{statement}
 use Rattle.prover.proofs.ask.Tie as tie
 
-goal-refusal-requires : tie.Need-goal-refusal-requires
-goal-refusal-requires c κs = search needs
-
 settle-requires : tie.Need-settle-requires
 settle-requires c κs = sym (c .before .goal-refusal .ensures) ∙ c .if1 .taken
 
@@ -18,4 +15,4 @@ returns-2 : tie.Need-returns-2
 returns-2 c = asked-refused _ _ _ (c .before .goal-refusal .ensures) (c .if1 .left)
 
 pub ask-spec : {M : Type 1} → statement M
-ask-spec = tie.close (tie.spec goal-refusal-requires settle-requires returns returns-2)
+ask-spec = tie.close (tie.spec (λ c κs. search needs) settle-requires returns returns-2)

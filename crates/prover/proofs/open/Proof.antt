@@ -5,15 +5,6 @@ use borrow.Author.Needs.{needs}
 use Rattle.prover.proofs.open.Statement.{statement}
 use Rattle.prover.proofs.open.Tie as tie
 
-count-in-range-requires : tie.Need-count-in-range-requires
-count-in-range-requires c κs = search needs
-
-empty-requires : tie.Need-empty-requires
-empty-requires c κs = search needs
-
-empty-requires-2 : tie.Need-empty-requires-2
-empty-requires-2 c κs = search needs
-
 returns : tie.Need-returns
 unfolding opened openRefusal
 returns c =
@@ -28,4 +19,4 @@ returns-2 c =
 
 pub open-spec : {M : Type 1} → statement M
 open-spec =
-    tie.close (tie.spec count-in-range-requires empty-requires empty-requires-2 returns returns-2)
+    tie.close (tie.spec (λ c κs. search needs) (λ c κs. search needs) (λ c κs. search needs) returns returns-2)

@@ -8,21 +8,6 @@ use borrow.Author.Needs.{needs}
 use Rattle.report.proofs.write_refuted.Statement.{statement}
 use Rattle.report.proofs.write_refuted.Tie as tie
 
-slice-aggregate-word : tie.Need-slice-aggregate-word
-slice-aggregate-word c = search needs
-
-word-requires : tie.Need-word-requires
-word-requires c κs = search needs
-
-figures-requires : tie.Need-figures-requires
-figures-requires c κs = search needs
-
-worlds-requires : tie.Need-worlds-requires
-worlds-requires c κs = search needs
-
-same-length : tie.Need-same-length
-same-length c = search needs
-
 returns : tie.Need-returns
 unfolding refutedReport ascii
 returns c =
@@ -36,9 +21,9 @@ pub write-refuted-spec : {M : Type 1} → statement M
 write-refuted-spec =
     tie.close
     (tie.spec
-    slice-aggregate-word
-    word-requires
-    figures-requires
-    worlds-requires
-    same-length
+    (λ c. search needs)
+    (λ c κs. search needs)
+    (λ c κs. search needs)
+    (λ c κs. search needs)
+    (λ c. search needs)
     returns)

@@ -8,21 +8,6 @@ use borrow.Author.Needs.{needs}
 use Rattle.report.proofs.write_valid.Statement.{statement}
 use Rattle.report.proofs.write_valid.Tie as tie
 
-slice-aggregate-word : tie.Need-slice-aggregate-word
-slice-aggregate-word c = search needs
-
-word-requires : tie.Need-word-requires
-word-requires c κs = search needs
-
-figures-requires : tie.Need-figures-requires
-figures-requires c κs = search needs
-
-steps-requires : tie.Need-steps-requires
-steps-requires c κs = search needs
-
-same-length : tie.Need-same-length
-same-length c = search needs
-
 returns : tie.Need-returns
 unfolding validReport ascii
 returns c =
@@ -36,9 +21,9 @@ pub write-valid-spec : {M : Type 1} → statement M
 write-valid-spec =
     tie.close
     (tie.spec
-    slice-aggregate-word
-    word-requires
-    figures-requires
-    steps-requires
-    same-length
+    (λ c. search needs)
+    (λ c κs. search needs)
+    (λ c κs. search needs)
+    (λ c κs. search needs)
+    (λ c. search needs)
     returns)

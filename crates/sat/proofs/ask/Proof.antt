@@ -18,34 +18,10 @@ past-is c = c .before .before .complement .ensures ∙ ap (minus everyAtom) (c .
 lacked-is : (c : tie.After-join) → num (c .join .result) ≡ union (num (c .before .before .complement .result)) (singleOrEmpty (c .before .before .before .before .before .before .args .asked))
 lacked-is c = c .join .ensures ∙ ap (union (num (c .before .before .complement .result))) (c .before .single .ensures)
 
-below-requires : tie.Need-below-requires
-below-requires c κs = search needs
-
-complement-requires : tie.Need-complement-requires
-complement-requires c κs = search needs
-
-single-requires : tie.Need-single-requires
-single-requires c κs = search needs
-
-join-requires : tie.Need-join-requires
-join-requires c κs = search needs
-
-meets-requires : tie.Need-meets-requires
-meets-requires c κs = search needs
-
 returns : tie.Need-returns
 returns c =
     let j = c .before .before in
     none-asked _ _ _ _ _ _ _ _ (past-is j) (lacked-is j) (λ m w. clash _ _ m (true-T (sym (c .before .meets .ensures) ∙ c .if1 .taken)) (w .extends))
-
-bounded-requires : tie.Need-bounded-requires
-bounded-requires c κs = search needs
-
-bounded-requires-2 : tie.Need-bounded-requires-2
-bounded-requires-2 c κs = search needs
-
-nothing-requires : tie.Need-nothing-requires
-nothing-requires c κs = search needs
 
 least-requires : tie.Need-least-requires
 least-requires c κs =
@@ -53,12 +29,6 @@ least-requires c κs =
     start-node _ _ _
     (record { apart = apart-of _ _ (sym (e .before .meets .ensures) ∙ e .if1 .left); has-below = c .before .before .bounded .ensures; lacks-below = c .before .bounded2 .ensures })
     (c .nothing .ensures)
-
-enum-known-m : tie.Need-enum-known-m
-enum-known-m c = search needs
-
-enum-told : tie.Need-enum-told
-enum-told c = search needs
 
 returns-2 : tie.Need-returns-2
 returns-2 c =
@@ -76,17 +46,17 @@ pub ask-spec : {M : Type 1} → statement M
 ask-spec =
     tie.close
     (tie.spec
-    below-requires
-    complement-requires
-    single-requires
-    join-requires
-    meets-requires
+    (λ c κs. search needs)
+    (λ c κs. search needs)
+    (λ c κs. search needs)
+    (λ c κs. search needs)
+    (λ c κs. search needs)
     returns
-    bounded-requires
-    bounded-requires-2
-    nothing-requires
+    (λ c κs. search needs)
+    (λ c κs. search needs)
+    (λ c κs. search needs)
     least-requires
-    enum-known-m
-    enum-told
+    (λ c. search needs)
+    (λ c. search needs)
     returns-2
     returns-3)

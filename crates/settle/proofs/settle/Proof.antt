@@ -9,20 +9,8 @@ use native.Mathlib.Omega.{arith}
 use Rattle.settle.proofs.settle.Statement.{statement}
 use Rattle.settle.proofs.settle.Tie as tie
 
-formula-length-requires : tie.Need-formula-length-requires
-formula-length-requires c κs = search needs
-
 slice-aggregate-settle-with-sheet : tie.Need-slice-aggregate-settle-with-sheet
 slice-aggregate-settle-with-sheet c = sym (length-take-le _ _ (omega (arith, c .before .formula-length .ensures .within)))
-
-settle-with-sheet-requires : tie.Need-settle-with-sheet-requires
-settle-with-sheet-requires c κs = search needs
-
-same-length : tie.Need-same-length
-same-length c = search needs
-
-same-length-2 : tie.Need-same-length-2
-same-length-2 c = search needs
 
 returns : tie.Need-returns
 returns c =
@@ -36,9 +24,9 @@ pub settle-spec : {M : Type 1} → statement M
 settle-spec =
     tie.close
     (tie.spec
-    formula-length-requires
+    (λ c κs. search needs)
     slice-aggregate-settle-with-sheet
-    settle-with-sheet-requires
-    same-length
-    same-length-2
+    (λ c κs. search needs)
+    (λ c. search needs)
+    (λ c. search needs)
     returns)

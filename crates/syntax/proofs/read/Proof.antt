@@ -18,36 +18,15 @@ depth-is c = depth-right _ (length-is (c .before .before)) _ (c .before .too-dee
 fits : (c : tie.After-enum-told) → scanned (c .before .before .before .before .before .before .before .before .args .text .now) ≡ had 0
 fits c = subst (Scanned _) (c .enum-told .given .1) (c .before .before .find-fault .ensures)
 
-refused-requires : tie.Need-refused-requires
-refused-requires c κs = search needs
-
 returns : tie.Need-returns
 returns c = answer-refused _ _ _ _ (line-1 (inl (c .before .if1 .taken))) (c .refused .ensures)
-
-refused-requires-2 : tie.Need-refused-requires-2
-refused-requires-2 c κs = search needs
 
 returns-2 : tie.Need-returns-2
 returns-2 c = answer-refused _ _ _ _ (line-1 (inr (c .before .if2 .taken))) (c .refused2 .ensures)
 
-too-deep-requires : tie.Need-too-deep-requires
-too-deep-requires c κs = search needs
-
-refused-requires-3 : tie.Need-refused-requires-3
-refused-requires-3 c κs = search needs
-
 returns-3 : tie.Need-returns-3
 returns-3 c =
     answer-refused _ _ _ _ (refused-deep _ (length-is (c .before .before .before)) _ (c .before .before .too-deep .ensures) (c .before .if3 .taken)) (c .refused3 .ensures)
-
-find-fault-requires : tie.Need-find-fault-requires
-find-fault-requires c κs = search needs
-
-enum-known-place : tie.Need-enum-known-place
-enum-known-place c = search needs
-
-refused-requires-4 : tie.Need-refused-requires-4
-refused-requires-4 c κs = search needs
 
 returns-4 : tie.Need-returns-4
 returns-4 c =
@@ -56,24 +35,12 @@ returns-4 c =
     let fault = refused-fault _ (length-is (d .before .before)) (depth-is d) _ _ (scan .find-fault .ensures) (c .before .before .place .given .1) in
     answer-refused _ _ _ _ fault (c .refused4 .ensures)
 
-enum-told : tie.Need-enum-told
-enum-told c = search needs
-
-size-requires : tie.Need-size-requires
-size-requires c κs = search needs
-
-refused-requires-5 : tie.Need-refused-requires-5
-refused-requires-5 c κs = search needs
-
 returns-5 : tie.Need-returns-5
 returns-5 c =
     let e = c .before .before .before in
     let d = e .before .before .before in
     let large = refused-large _ (length-is (d .before .before)) (depth-is d) (fits e) _ (c .before .before .size .ensures) (c .before .if4 .taken) in
     answer-refused _ _ _ _ large (c .refused5 .ensures)
-
-empty-requires : tie.Need-empty-requires
-empty-requires c κs = search needs
 
 implication-requires : tie.Need-implication-requires
 implication-requires c κs = start-asks _ (fits (c .before .before .before)) _ (c .empty .ensures)
@@ -90,21 +57,21 @@ pub read-spec : {M : Type 1} → statement M
 read-spec =
     tie.close
     (tie.spec
-    refused-requires
+    (λ c κs. search needs)
     returns
-    refused-requires-2
+    (λ c κs. search needs)
     returns-2
-    too-deep-requires
-    refused-requires-3
+    (λ c κs. search needs)
+    (λ c κs. search needs)
     returns-3
-    find-fault-requires
-    enum-known-place
-    refused-requires-4
+    (λ c κs. search needs)
+    (λ c. search needs)
+    (λ c κs. search needs)
     returns-4
-    enum-told
-    size-requires
-    refused-requires-5
+    (λ c. search needs)
+    (λ c κs. search needs)
+    (λ c κs. search needs)
     returns-5
-    empty-requires
+    (λ c κs. search needs)
     implication-requires
     returns-6)

@@ -20,9 +20,6 @@ slice-aggregate-copy c = sym (length-take-le _ _ (omega arith))
 copy-requires : tie.Need-copy-requires
 copy-requires c κs = let s = c .before .before .before .before .before .before .args in omega (arith, length-take-le (s .n) (s .text .now) (omega arith))
 
-same-length : tie.Need-same-length
-same-length c = search needs
-
 returns-3 : tie.Need-returns-3
 returns-3 c T b buffer =
     let s = c .before .before .before .before .before .before .before .before .before .args in
@@ -30,4 +27,4 @@ returns-3 c T b buffer =
 
 pub hand-over-spec : {M : Type 1} → statement M
 hand-over-spec =
-    tie.close (tie.spec returns returns-2 slice-aggregate-copy copy-requires same-length returns-3)
+    tie.close (tie.spec returns returns-2 slice-aggregate-copy copy-requires (λ c. search needs) returns-3)

@@ -5,15 +5,6 @@ use borrow.Author.Needs.{needs}
 use Rattle.zestanchor.proofs.certified_length.Statement.{statement}
 use Rattle.zestanchor.proofs.certified_length.Tie as tie
 
-settle-requires : tie.Need-settle-requires
-settle-requires c κs = search needs
-
-slice-aggregate-write-certified : tie.Need-slice-aggregate-write-certified
-slice-aggregate-write-certified c = search needs
-
-write-certified-requires : tie.Need-write-certified-requires
-write-certified-requires c κs = search needs
-
 returns : tie.Need-returns
 returns c =
     let settled = c .before .before .before in
@@ -22,4 +13,4 @@ returns c =
 pub certified-length-spec : {M : Type 1} → statement M
 certified-length-spec =
     tie.close
-    (tie.spec settle-requires slice-aggregate-write-certified write-certified-requires returns)
+    (tie.spec (λ c κs. search needs) (λ c. search needs) (λ c κs. search needs) returns)

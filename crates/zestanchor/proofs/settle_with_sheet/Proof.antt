@@ -7,24 +7,6 @@ use borrow.Author.Needs.{needs}
 use Rattle.zestanchor.proofs.settle_with_sheet.Statement.{statement}
 use Rattle.zestanchor.proofs.settle_with_sheet.Tie as tie
 
-settle-requires : tie.Need-settle-requires
-settle-requires c κs = search needs
-
-report-requires : tie.Need-report-requires
-report-requires c κs = search needs
-
-write-requires : tie.Need-write-requires
-write-requires c κs = search needs
-
-size-of-requires : tie.Need-size-of-requires
-size-of-requires c κs = search needs
-
-same-length : tie.Need-same-length
-same-length c = search needs
-
-same-length-2 : tie.Need-same-length-2
-same-length-2 c = search needs
-
 returns : tie.Need-returns
 returns c =
     let written = c .before .before .before in
@@ -39,10 +21,10 @@ pub settle-with-sheet-spec : {M : Type 1} → statement M
 settle-with-sheet-spec =
     tie.close
     (tie.spec
-    settle-requires
-    report-requires
-    write-requires
-    size-of-requires
-    same-length
-    same-length-2
+    (λ c κs. search needs)
+    (λ c κs. search needs)
+    (λ c κs. search needs)
+    (λ c κs. search needs)
+    (λ c. search needs)
+    (λ c. search needs)
     returns)

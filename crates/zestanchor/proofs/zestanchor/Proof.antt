@@ -8,26 +8,11 @@ use Rattle.zestanchor.proofs.zestanchor.Statement.{statement}
 use Rattle.zestanchor.proofs.zestanchor.Tie as tie
 use Rattle.zestanchor.proofs.settle.Reads as settle-reads′
 
-settle-requires : tie.Need-settle-requires
-settle-requires c κs = search needs
-
-same-length : tie.Need-same-length
-same-length c = search needs
-
 returns : tie.Need-returns
 returns c =
     let chosen = c .before .before .before .before in
     let given = chosen .before .before .before .args in
     done-as (given .task) 0 (now (given .input)) _ _ _ (chosen .if1 .taken) (c .before .before .settle .ensures)
-
-settle-requires-2 : tie.Need-settle-requires-2
-settle-requires-2 c κs = search needs
-
-write-certified-requires : tie.Need-write-certified-requires
-write-certified-requires c κs = search needs
-
-same-length-2 : tie.Need-same-length-2
-same-length-2 c = search needs
 
 returns-2 : tie.Need-returns-2
 returns-2 c =
@@ -36,20 +21,11 @@ returns-2 c =
     let given = chosen .before .before .before .before .args in
     done-as (given .task) 1 (now (given .input)) _ _ _ (chosen .if2 .taken) (c .before .before .write-certified .ensures (now (given .input)) (settled .settle2 .ensures))
 
-judge-requires : tie.Need-judge-requires
-judge-requires c κs = search needs
-
-same-length-3 : tie.Need-same-length-3
-same-length-3 c = search needs
-
 returns-3 : tie.Need-returns-3
 returns-3 c =
     let chosen = c .before .before .before .before in
     let given = chosen .before .before .before .before .before .args in
     done-as (given .task) 2 (now (given .input)) _ _ _ (chosen .if3 .taken) (judged-whole (c .before .before .judge .ensures))
-
-certified-length-requires : tie.Need-certified-length-requires
-certified-length-requires c κs = search needs
 
 returns-4 : tie.Need-returns-4
 returns-4 c =
@@ -66,16 +42,16 @@ pub zestanchor-spec : {M : Type 1} → statement M
 zestanchor-spec =
     tie.close
     (tie.spec
-    settle-requires
-    same-length
+    (λ c κs. search needs)
+    (λ c. search needs)
     returns
-    settle-requires-2
-    write-certified-requires
-    same-length-2
+    (λ c κs. search needs)
+    (λ c κs. search needs)
+    (λ c. search needs)
     returns-2
-    judge-requires
-    same-length-3
+    (λ c κs. search needs)
+    (λ c. search needs)
     returns-3
-    certified-length-requires
+    (λ c κs. search needs)
     returns-4
     returns-5)

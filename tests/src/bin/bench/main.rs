@@ -1,6 +1,10 @@
 //! Times the proved library, the whole program `settle` and the second implementation side by side, formula by formula,
-//! and prints one table in milliseconds. The path of the program may be given as an argument.
+//! and prints one table in milliseconds; then calls on a session beside scripts of them. The path of `settle` may be given
+//! as an argument.
 
+mod calls;
+mod clock;
+mod scripts;
 mod sets;
 
 use outside::program::{self, SETTLE};
@@ -26,6 +30,8 @@ fn main() {
         let columns: Vec<String> = (0..3).map(|side| column(&times, side)).collect();
         println!("{name:<30} {:>8} {}", formulas.len(), columns.join(" "));
     }
+    println!();
+    scripts::print_times();
 }
 
 /// For each formula and side the best of some turns; a turn is all formulas on one side after the other, so that a slow

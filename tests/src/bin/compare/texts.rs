@@ -3,11 +3,16 @@
 use crate::both;
 use crate::Counts;
 use outside::random::Random;
-use outside::texts::{damaged, drawn, limits, BYTES, CLOSE_TO_FORMULAS};
+use outside::texts::{damaged, drawn, limits, with_every_connective, BYTES, CLOSE_TO_FORMULAS};
 
 pub fn compare(random: &mut Random, counts: &mut Counts) {
     for input in limits() {
         settle(&input, counts);
+    }
+    // The scripts for `session` have every other byte there.
+    let text = with_every_connective();
+    for at in 0..text.len() {
+        settle(&[&text[..at], b"\n", &text[at + 1..]].concat(), counts);
     }
     for _ in 0..20_000 {
         settle(&damaged(random), counts);

@@ -2,6 +2,9 @@
 //! for the sheets.
 
 mod check_sheet;
+mod generated_scripts;
+mod random_scripts;
+mod session;
 mod settle;
 
 use outside::random::Random;
@@ -11,6 +14,18 @@ use std::time::Instant;
 
 const MOST_SHOWN: usize = 100;
 
+/// How often each program was run and how many lines `session` had.
+#[derive(Debug, PartialEq, Eq)]
+struct Counts {
+    settle: usize,
+    check_sheet: usize,
+    scripts: usize,
+    lines: usize,
+}
+
+/// So much there is to compare on the fixed seed: a list that shrank or a loop that ended early shows here.
+const WANTED: Counts = Counts { settle: 1_692, check_sheet: 716, scripts: 333, lines: 116_196 };
+
 fn main() {
     let start = Instant::now();
     let Some(folder) = std::env::args_os().nth(1) else {
@@ -18,12 +33,17 @@ fn main() {
         exit(2)
     };
     let mut random = Random::new(2025);
-    let settled = settle::compare(&mut random, Path::new(&folder));
-    let judged = check_sheet::compare(&mut random);
+    let settle = settle::compare(&mut random, Path::new(&folder));
+    let check_sheet = check_sheet::compare(&mut random);
+    let session::Scripts { count: scripts, lines, tally } = session::compare(&mut random);
+    assert_eq!(Counts { settle, check_sheet, scripts, lines }, WANTED, "what was compared");
     println!(
-        "programs: no difference in {settled} runs of settle and {judged} of check_sheet, in {:.1} s",
+        "programs: no difference in {settle} runs of settle, {check_sheet} of check_sheet, {scripts} scripts with {lines} \
+         lines of session, in {:.1} s",
         start.elapsed().as_secs_f64()
     );
+    let met: Vec<String> = tally.iter().map(|(kind, count)| format!("{kind} {count}")).collect();
+    println!("answers to the random scripts: {}", met.join(", "));
 }
 
 pub fn fail(what: &str, input: &[u8], found: &[u8], wanted: &[u8]) -> ! {

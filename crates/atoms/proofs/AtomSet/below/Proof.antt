@@ -6,9 +6,6 @@ use Rattle.atoms.proofs.Machine.{one-shl, below-word, below-past}
 use Rattle.atoms.proofs.AtomSet.below.Statement.{statement}
 use Rattle.atoms.proofs.AtomSet.below.Tie as tie
 
-shl-t5 : tie.Need-shl-t5
-shl-t5 c = search needs
-
 sub-t6 : tie.Need-sub-t6
 sub-t6 c = rw (one-shl (c .before .args .n) (c .if1 .taken)) (pow-pos (c .before .args .n))
 
@@ -21,4 +18,4 @@ unfolding num
 returns-2 c = below-past (c .before .args .n) (c .if1 .left)
 
 pub below-spec : {M : Type 1} → statement M
-below-spec = tie.close (tie.spec shl-t5 sub-t6 returns returns-2)
+below-spec = tie.close (tie.spec (λ c. search needs) sub-t6 returns returns-2)

@@ -8,9 +8,6 @@ use Rattle.atoms.proofs.Members.{has-past}
 use Rattle.atoms.proofs.AtomSet.has.Statement.{statement}
 use Rattle.atoms.proofs.AtomSet.has.Tie as tie
 
-shr-result : tie.Need-shr-result
-shr-result c = search needs
-
 returns : tie.Need-returns
 unfolding num has bitAt
 returns c = refl
@@ -20,4 +17,4 @@ unfolding num
 returns-2 c = sym (has-past 64 (c .before .args .self .bits) (c .before .args .i) (omega arith) (c .if1 .left))
 
 pub has-spec : {M : Type 1} → statement M
-has-spec = tie.close (tie.spec shr-result returns returns-2)
+has-spec = tie.close (tie.spec (λ c. search needs) returns returns-2)

@@ -13,15 +13,9 @@ returns c = highest-none (c .before .before .args .self .bits) (c .if1 .taken)
 sub-t4 : tie.Need-sub-t4
 sub-t4 c = leading-small (c .before .before .before .args .self .bits) (omega (arith, c .before .if1 .left)) (omega arith)
 
-cast-t5 : tie.Need-cast-t5
-cast-t5 c = search needs
-
-shl-t6 : tie.Need-shl-t6
-shl-t6 c = search needs
-
 returns-2 : tie.Need-returns-2
 unfolding num
 returns-2 c = highest-word (c .before .before .before .args .self .bits) (omega (arith, c .before .if1 .left)) (omega arith)
 
 pub highest-spec : {M : Type 1} → statement M
-highest-spec = tie.close (tie.spec returns sub-t4 cast-t5 shl-t6 returns-2)
+highest-spec = tie.close (tie.spec returns sub-t4 (λ c. search needs) (λ c. search needs) returns-2)

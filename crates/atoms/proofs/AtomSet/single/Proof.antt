@@ -5,9 +5,6 @@ use Rattle.atoms.proofs.Machine.{single-word, single-past}
 use Rattle.atoms.proofs.AtomSet.single.Statement.{statement}
 use Rattle.atoms.proofs.AtomSet.single.Tie as tie
 
-shl-t5 : tie.Need-shl-t5
-shl-t5 c = search needs
-
 returns : tie.Need-returns
 unfolding num
 returns c = single-word (c .before .args .i) (c .if1 .taken)
@@ -17,4 +14,4 @@ unfolding num
 returns-2 c = single-past (c .before .args .i) (c .if1 .left)
 
 pub single-spec : {M : Type 1} → statement M
-single-spec = tie.close (tie.spec shl-t5 returns returns-2)
+single-spec = tie.close (tie.spec (λ c. search needs) returns returns-2)

@@ -8,12 +8,9 @@ returns : tie.Need-returns
 unfolding num
 returns c = search needs
 
-sub-t3 : tie.Need-sub-t3
-sub-t3 c = search needs
-
 returns-2 : tie.Need-returns-2
 unfolding num
 returns-2 c = search needs
 
 pub without-lowest-spec : {M : Type 1} → statement M
-without-lowest-spec = tie.close (tie.spec returns sub-t3 returns-2)
+without-lowest-spec = tie.close (tie.spec returns (λ c. search needs) returns-2)

@@ -5,18 +5,6 @@ use Rattle.atoms.proofs.Bytes.{byte-in, byte-past}
 use Rattle.atoms.proofs.little_endian.byte.Statement.{statement}
 use Rattle.atoms.proofs.little_endian.byte.Tie as tie
 
-sub-if2 : tie.Need-sub-if2
-sub-if2 c = search needs
-
-add-wide : tie.Need-add-wide
-add-wide c = search needs
-
-shared-slice-read-wide : tie.Need-shared-slice-read-wide
-shared-slice-read-wide c = search needs
-
-wide-requires : tie.Need-wide-requires
-wide-requires c κs = search needs
-
 returns : tie.Need-returns
 returns c = let s = c .before .before .before .before .before in (byte-in (s .args .bytes .now) (s .args .at) (s .args .i) _ (c .wide .ensures .0), c .wide .ensures .1)
 
@@ -29,4 +17,4 @@ returns-3 c = let s = c .before .before in (byte-past (s .args .bytes .now) (s .
 pub byte-spec : {M : Type 1} → statement M
 byte-spec =
     tie.close
-    (tie.spec sub-if2 add-wide shared-slice-read-wide wide-requires returns returns-2 returns-3)
+    (tie.spec (λ c. search needs) (λ c. search needs) (λ c. search needs) (λ c κs. search needs) returns returns-2 returns-3)

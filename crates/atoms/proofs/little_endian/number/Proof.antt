@@ -21,17 +21,11 @@ loop-holds c =
     let e : c .if1 .i ≡ min (s .width) 8 = ⊎-elim (λ w. omega arith) (λ w. omega arith) (c .if1 .came) in
     (omega arith, sym (ap (upper (s .bytes .now) (s .at) (min (s .width) 8)) e ∙ upper-none (s .bytes .now) (s .at) (min (s .width) 8)), one-le-pow (min (s .width) 8 - c .if1 .i) 256 (omega arith))
 
-sub-i : tie.Need-sub-i Inv-loop μ-loop
-sub-i c = search needs
-
 mul-sum : tie.Need-mul-sum Inv-loop μ-loop
 mul-sum c =
     let l = c .before .before in
     let w = min (l .before .before .before .args .width) 8 in
     record { fits = omega (arith, fits-word w (l .loop .i - 1) _ (omega arith) (fits-next w (l .loop .i) (l .loop .sum) 0 (omega arith) (l .loop .inv .0) (l .loop .inv .2) (omega arith))) }
-
-byte-requires : tie.Need-byte-requires Inv-loop μ-loop
-byte-requires c κs = search needs
 
 add-sum : tie.Need-add-sum Inv-loop μ-loop
 add-sum c =
@@ -66,9 +60,9 @@ number-spec =
     Inv-loop
     μ-loop
     loop-holds
-    sub-i
+    (λ c. search needs)
     mul-sum
-    byte-requires
+    (λ c κs. search needs)
     add-sum
     loop-less
     loop-again

@@ -15,17 +15,8 @@ counted c = ⊎-elim (λ w. omega arith) (λ w. omega arith) (c .if1 .came)
 returns : tie.Need-returns
 returns c = put-short _ _ _ _ (omega (arith, counted (c .before)))
 
-sub-if3 : tie.Need-sub-if3
-sub-if3 c = search needs
-
 returns-2 : tie.Need-returns-2
 returns-2 c = put-short _ _ _ _ (omega (arith, counted (c .before .before .before)))
-
-put-digits-requires : tie.Need-put-digits-requires
-put-digits-requires c κs = search needs
-
-same-length : tie.Need-same-length
-same-length c = search needs
 
 returns-3 : tie.Need-returns-3
 returns-3 c =
@@ -34,4 +25,4 @@ returns-3 c =
     c .before .before .put-digits .ensures ∙ ap (written (s .buffer .now) (s .at) (s .x)) e ∙ put-fits (s .buffer .now) (s .at) (min (s .width) 8) (s .x) (omega arith)
 
 pub put-spec : {M : Type 1} → statement M
-put-spec = tie.close (tie.spec returns sub-if3 returns-2 put-digits-requires same-length returns-3)
+put-spec = tie.close (tie.spec returns (λ c. search needs) returns-2 (λ c κs. search needs) (λ c. search needs) returns-3)

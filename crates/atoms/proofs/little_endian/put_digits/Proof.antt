@@ -22,9 +22,6 @@ long c = ap length (c .before .loop .inv .1) ∙ written-length _ (c .before .be
 loop-holds : tie.Need-loop-holds Inv-loop μ-loop
 loop-holds c = (omega arith, written-none (c .args .buffer .now) (c .args .at) (c .args .x), sym (div-one (c .args .x)))
 
-cast-buffer : tie.Need-cast-buffer Inv-loop μ-loop
-cast-buffer c = search needs
-
 add-buffer : tie.Need-add-buffer Inv-loop μ-loop
 add-buffer c = omega arith
 
@@ -62,7 +59,7 @@ put-digits-spec =
     Inv-loop
     μ-loop
     loop-holds
-    cast-buffer
+    (λ c. search needs)
     add-buffer
     slice-write-buffer
     add-i

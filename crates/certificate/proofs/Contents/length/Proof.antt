@@ -7,15 +7,6 @@ use Rattle.certificate.proofs.Entries.{claim-bytes}
 use Rattle.certificate.proofs.Contents.length.Statement.{statement}
 use Rattle.certificate.proofs.Contents.length.Tie as tie
 
-claim-at-requires : tie.Need-claim-at-requires
-claim-at-requires c κs = search needs
-
-claim-width-requires : tie.Need-claim-width-requires
-claim-width-requires c κs = search needs
-
-cast-result : tie.Need-cast-result
-cast-result c = search needs
-
 mul-result : tie.Need-mul-result
 mul-result c =
     let self = c .before .before .before .args .self in
@@ -32,4 +23,4 @@ returns c = ap₂ (λ x w. x + w * c .before .before .before .args .self .rows) 
 pub length-spec : {M : Type 1} → statement M
 length-spec =
     tie.close
-    (tie.spec claim-at-requires claim-width-requires cast-result mul-result add-result returns)
+    (tie.spec (λ c κs. search needs) (λ c κs. search needs) (λ c. search needs) mul-result add-result returns)

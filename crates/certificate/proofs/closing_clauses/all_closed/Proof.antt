@@ -32,27 +32,9 @@ Inv-loop bytes flats count start i₀ i = (i ≤ count) × (all (closed (flatsIn
 abbrev μ-loop : tie.MeasureT-loop
 μ-loop bytes flats count start i₀ i = count - i
 
-cast-flats : tie.Need-cast-flats Inv-loop μ-loop
-cast-flats c = search needs
-
-cast-count : tie.Need-cast-count Inv-loop μ-loop
-cast-count c = search needs
-
-implications-at-requires : tie.Need-implications-at-requires Inv-loop μ-loop
-implications-at-requires c κs = search needs
-
 loop-holds : tie.Need-loop-holds Inv-loop μ-loop
 unfolding all tabulate
 loop-holds c = (omega arith, refl)
-
-mul-implication-from : tie.Need-mul-implication-from Inv-loop μ-loop
-mul-implication-from c = search needs
-
-add-implication-from : tie.Need-add-implication-from Inv-loop μ-loop
-add-implication-from c = search needs
-
-implication-from-requires : tie.Need-implication-from-requires Inv-loop μ-loop
-implication-from-requires c κs = search needs
 
 is-closed-requires : tie.Need-is-closed-requires Inv-loop μ-loop
 is-closed-requires c κs =
@@ -108,13 +90,13 @@ all-closed-spec =
     (tie.spec
     Inv-loop
     μ-loop
-    cast-flats
-    cast-count
-    implications-at-requires
+    (λ c. search needs)
+    (λ c. search needs)
+    (λ c κs. search needs)
     loop-holds
-    mul-implication-from
-    add-implication-from
-    implication-from-requires
+    (λ c. search needs)
+    (λ c. search needs)
+    (λ c κs. search needs)
     is-closed-requires
     returns
     add-i

@@ -39,9 +39,6 @@ add-flat-from c = omega arith
 flat-from-requires : tie.Need-flat-from-requires Inv-loop μ-loop
 flat-from-requires c κs = omega arith
 
-is-flat-requires : tie.Need-is-flat-requires Inv-loop μ-loop
-is-flat-requires c κs = search needs
-
 returns : tie.Need-returns Inv-loop μ-loop
 returns c =
     let test = c .before in
@@ -84,7 +81,7 @@ has-flat-spec =
     mul-flat-from
     add-flat-from
     flat-from-requires
-    is-flat-requires
+    (λ c κs. search needs)
     returns
     add-i
     loop-less

@@ -8,15 +8,6 @@ use Rattle.certificate.proofs.closing_clauses.is_closed.Tie as tie
 returns : tie.Need-returns
 returns c = closed-bottom _ _ (c .if1 .taken)
 
-single-requires : tie.Need-single-requires
-single-requires c κs = search needs
-
-single-requires-2 : tie.Need-single-requires-2
-single-requires-2 c κs = search needs
-
-has-flat-requires : tie.Need-has-flat-requires
-has-flat-requires c κs = search needs
-
 returns-2 : tie.Need-returns-2
 returns-2 c =
     let named = c .before .before .before in
@@ -25,4 +16,4 @@ returns-2 c =
 
 pub is-closed-spec : {M : Type 1} → statement M
 is-closed-spec =
-    tie.close (tie.spec returns single-requires single-requires-2 has-flat-requires returns-2)
+    tie.close (tie.spec returns (λ c κs. search needs) (λ c κs. search needs) (λ c κs. search needs) returns-2)

@@ -5,12 +5,6 @@ use Rattle.certificate.proofs.Closing.{flat-differs, flat-same}
 use Rattle.certificate.proofs.closing_clauses.is_flat.Statement.{statement}
 use Rattle.certificate.proofs.closing_clauses.is_flat.Tie as tie
 
-same-requires : tie.Need-same-requires
-same-requires c κs = search needs
-
-same-requires-2 : tie.Need-same-requires-2
-same-requires-2 c κs = search needs
-
 returns : tie.Need-returns
 returns c = c .same2 .ensures ∙ flat-same _ _ _ (sym (c .before .before .same .ensures) ∙ c .before .if1 .taken)
 
@@ -18,4 +12,4 @@ returns-2 : tie.Need-returns-2
 returns-2 c = flat-differs _ _ _ (sym (c .before .same .ensures) ∙ c .if1 .left)
 
 pub is-flat-spec : {M : Type 1} → statement M
-is-flat-spec = tie.close (tie.spec same-requires same-requires-2 returns returns-2)
+is-flat-spec = tie.close (tie.spec (λ c κs. search needs) (λ c κs. search needs) returns returns-2)

@@ -30,30 +30,9 @@ Inv-loop bytes m count first start worlds i₀ i = (i ≤ count) × (all (realiz
 abbrev μ-loop : tie.MeasureT-loop
 μ-loop bytes m count first start worlds i₀ i = count - i
 
-cast-count : tie.Need-cast-count Inv-loop μ-loop
-cast-count c = search needs
-
-implications-at-requires : tie.Need-implications-at-requires Inv-loop μ-loop
-implications-at-requires c κs = search needs
-
-claim-at-requires : tie.Need-claim-at-requires Inv-loop μ-loop
-claim-at-requires c κs = search needs
-
-cast-worlds : tie.Need-cast-worlds Inv-loop μ-loop
-cast-worlds c = search needs
-
 loop-holds : tie.Need-loop-holds Inv-loop μ-loop
 unfolding all tabulate
 loop-holds c = (omega arith, refl)
-
-mul-implication-from : tie.Need-mul-implication-from Inv-loop μ-loop
-mul-implication-from c = search needs
-
-add-implication-from : tie.Need-add-implication-from Inv-loop μ-loop
-add-implication-from c = search needs
-
-implication-from-requires : tie.Need-implication-from-requires Inv-loop μ-loop
-implication-from-requires c κs = search needs
 
 is-realized-requires : tie.Need-is-realized-requires Inv-loop μ-loop
 is-realized-requires c κs =
@@ -107,14 +86,14 @@ each-realized-spec =
     (tie.spec
     Inv-loop
     μ-loop
-    cast-count
-    implications-at-requires
-    claim-at-requires
-    cast-worlds
+    (λ c. search needs)
+    (λ c κs. search needs)
+    (λ c κs. search needs)
+    (λ c. search needs)
     loop-holds
-    mul-implication-from
-    add-implication-from
-    implication-from-requires
+    (λ c. search needs)
+    (λ c. search needs)
+    (λ c κs. search needs)
     is-realized-requires
     returns
     add-i

@@ -34,12 +34,6 @@ mul-load c = omega arith
 add-load : tie.Need-add-load Inv-loop μ-loop
 add-load c = omega arith
 
-load-requires : tie.Need-load-requires Inv-loop μ-loop
-load-requires c κs = search needs
-
-is-beyond-requires : tie.Need-is-beyond-requires Inv-loop μ-loop
-is-beyond-requires c κs = search needs
-
 returns : tie.Need-returns Inv-loop μ-loop
 returns c =
     let test = c .before in
@@ -82,8 +76,8 @@ has-beyond-spec =
     loop-holds
     mul-load
     add-load
-    load-requires
-    is-beyond-requires
+    (λ c κs. search needs)
+    (λ c κs. search needs)
     returns
     add-i
     loop-less

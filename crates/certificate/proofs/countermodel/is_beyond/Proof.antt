@@ -7,18 +7,6 @@ use Rattle.certificate.proofs.Worlds.{beyond-outside, beyond-same, beyo
 use Rattle.certificate.proofs.countermodel.is_beyond.Statement.{statement}
 use Rattle.certificate.proofs.countermodel.is_beyond.Tie as tie
 
-within-requires : tie.Need-within-requires
-within-requires c κs = search needs
-
-same-requires : tie.Need-same-requires
-same-requires c κs = search needs
-
-has-requires : tie.Need-has-requires
-has-requires c κs = search needs
-
-has-requires-2 : tie.Need-has-requires-2
-has-requires-2 c κs = search needs
-
 returns : tie.Need-returns
 returns c =
     let with-a = c .before in
@@ -46,10 +34,10 @@ pub is-beyond-spec : {M : Type 1} → statement M
 is-beyond-spec =
     tie.close
     (tie.spec
-    within-requires
-    same-requires
-    has-requires
-    has-requires-2
+    (λ c κs. search needs)
+    (λ c κs. search needs)
+    (λ c κs. search needs)
+    (λ c κs. search needs)
     returns
     returns-2
     returns-3

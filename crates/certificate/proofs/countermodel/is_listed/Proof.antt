@@ -32,12 +32,6 @@ mul-load c = omega arith
 add-load : tie.Need-add-load Inv-loop μ-loop
 add-load c = omega arith
 
-load-requires : tie.Need-load-requires Inv-loop μ-loop
-load-requires c κs = search needs
-
-same-requires : tie.Need-same-requires Inv-loop μ-loop
-same-requires c κs = search needs
-
 returns : tie.Need-returns Inv-loop μ-loop
 returns c =
     let t = c .before in
@@ -76,8 +70,8 @@ is-listed-spec =
     loop-holds
     mul-load
     add-load
-    load-requires
-    same-requires
+    (λ c κs. search needs)
+    (λ c κs. search needs)
     returns
     add-i
     loop-less

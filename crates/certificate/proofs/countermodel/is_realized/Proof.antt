@@ -5,22 +5,13 @@ use Rattle.certificate.proofs.Worlds.{realized-a, realized-b, realized-
 use Rattle.certificate.proofs.countermodel.is_realized.Statement.{statement}
 use Rattle.certificate.proofs.countermodel.is_realized.Tie as tie
 
-has-requires : tie.Need-has-requires
-has-requires c κs = search needs
-
 returns : tie.Need-returns
 returns c = realized-a _ _ _ (sym (c .before .has .ensures) ∙ c .if1 .taken)
-
-has-requires-2 : tie.Need-has-requires-2
-has-requires-2 c κs = search needs
 
 returns-2 : tie.Need-returns-2
 returns-2 c =
     let lacks-a = c .before .before in
     realized-b _ _ _ (sym (lacks-a .before .has .ensures) ∙ lacks-a .if1 .left) (sym (c .before .has2 .ensures) ∙ c .if2 .taken)
-
-has-requires-3 : tie.Need-has-requires-3
-has-requires-3 c κs = search needs
 
 returns-3 : tie.Need-returns-3
 returns-3 c =
@@ -28,9 +19,6 @@ returns-3 c =
     let lacks-a = lacks-b .before .before in
     realized-c _ _ _ (sym (lacks-a .before .has .ensures) ∙ lacks-a .if1 .left) (sym (lacks-b .before .has2 .ensures) ∙ lacks-b .if2 .left)
     (sym (c .before .has3 .ensures) ∙ c .if3 .taken)
-
-has-beyond-requires : tie.Need-has-beyond-requires
-has-beyond-requires c κs = search needs
 
 returns-4 : tie.Need-returns-4
 returns-4 c =
@@ -45,11 +33,11 @@ pub is-realized-spec : {M : Type 1} → statement M
 is-realized-spec =
     tie.close
     (tie.spec
-    has-requires
+    (λ c κs. search needs)
     returns
-    has-requires-2
+    (λ c κs. search needs)
     returns-2
-    has-requires-3
+    (λ c κs. search needs)
     returns-3
-    has-beyond-requires
+    (λ c κs. search needs)
     returns-4)

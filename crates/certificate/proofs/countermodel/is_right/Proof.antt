@@ -8,17 +8,11 @@ use Rattle.certificate.proofs.Worlds.{worlds-room, world-listed, world-
 use Rattle.certificate.proofs.countermodel.is_right.Statement.{statement}
 use Rattle.certificate.proofs.countermodel.is_right.Tie as tie
 
-claim-at-requires : tie.Need-claim-at-requires
-claim-at-requires c κs = search needs
-
 mul-load : tie.Need-mul-load
 mul-load c = let given = c .before .before .before .before in omega (arith, worlds-room _ _ _ _ (given .pre .0), given .pre .1)
 
 add-load : tie.Need-add-load
 add-load c = let given = c .before .before .before .before in omega (arith, worlds-room _ _ _ _ (given .pre .0), given .pre .1, c .claim-at .ensures)
-
-load-requires : tie.Need-load-requires
-load-requires c κs = search needs
 
 is-listed-requires : tie.Need-is-listed-requires
 is-listed-requires c κs =
@@ -33,12 +27,6 @@ returns c =
     let given = place .before .before .before .before in
     world-listed _ _ _ _ _ _ (place .claim-at .ensures) (given .pre .1) _ (world .load .ensures) (sym (c .before .is-listed .ensures) ∙ c .if1 .taken)
 
-load-requires-2 : tie.Need-load-requires-2
-load-requires-2 c κs = search needs
-
-within-requires : tie.Need-within-requires
-within-requires c κs = search needs
-
 returns-2 : tie.Need-returns-2
 returns-2 c =
     let first = c .before .before in
@@ -49,12 +37,6 @@ returns-2 c =
     world-outside _ _ _ _ _ _ (place .claim-at .ensures) (given .pre .1) _ (world .load .ensures) (sym (after-new .before .is-listed .ensures) ∙ after-new .if1 .left)
     _ (first .load2 .ensures)
     (sym (c .before .within .ensures) ∙ not-true _ (c .if2 .taken))
-
-cast-all-hold : tie.Need-cast-all-hold
-cast-all-hold c = search needs
-
-all-hold-requires : tie.Need-all-hold-requires
-all-hold-requires c κs = search needs
 
 returns-3 : tie.Need-returns-3
 returns-3 c =
@@ -86,15 +68,6 @@ returns-4 c =
     _ (first .load2 .ensures) (sym (after-first .before .within .ensures) ∙ not-false _ (after-first .if2 .left))
     _ _ (given .pre .0 .loaded) (sym (after-flats .before .all-hold .ensures) ∙ not-false _ (after-flats .if3 .left))
     (sym (c .before .each-realized .ensures) ∙ not-true _ (c .if4 .taken))
-
-goal-at-requires : tie.Need-goal-at-requires
-goal-at-requires c κs = search needs
-
-byte-requires : tie.Need-byte-requires
-byte-requires c κs = search needs
-
-has-requires : tie.Need-has-requires
-has-requires c κs = search needs
 
 returns-5 : tie.Need-returns-5
 returns-5 c =
@@ -131,22 +104,22 @@ pub is-right-spec : {M : Type 1} → statement M
 is-right-spec =
     tie.close
     (tie.spec
-    claim-at-requires
+    (λ c κs. search needs)
     mul-load
     add-load
-    load-requires
+    (λ c κs. search needs)
     is-listed-requires
     returns
-    load-requires-2
-    within-requires
+    (λ c κs. search needs)
+    (λ c κs. search needs)
     returns-2
-    cast-all-hold
-    all-hold-requires
+    (λ c. search needs)
+    (λ c κs. search needs)
     returns-3
     each-realized-requires
     returns-4
-    goal-at-requires
-    byte-requires
-    has-requires
+    (λ c κs. search needs)
+    (λ c κs. search needs)
+    (λ c κs. search needs)
     returns-5
     returns-6)

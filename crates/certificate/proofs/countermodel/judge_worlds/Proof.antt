@@ -19,9 +19,6 @@ Inv-loop bytes k left right count i₀ i = (i ≤ k .rows) × ((j : ℕ) → j <
 abbrev μ-loop : tie.MeasureT-loop
 μ-loop bytes k left right count i₀ i = k .rows - i
 
-cast-count : tie.Need-cast-count Inv-loop μ-loop
-cast-count c = search needs
-
 loop-holds : tie.Need-loop-holds Inv-loop μ-loop
 loop-holds c = (omega arith, λ j l. absurd (omega arith))
 
@@ -53,7 +50,7 @@ judge-worlds-spec =
     (tie.spec
     Inv-loop
     μ-loop
-    cast-count
+    (λ c. search needs)
     loop-holds
     is-right-requires
     returns

@@ -9,36 +9,15 @@ use Rattle.certificate.proofs.Judging.{flats-fit, column-there, worlds-
 use Rattle.certificate.proofs.countermodel.wrong_world.Statement.{statement}
 use Rattle.certificate.proofs.countermodel.wrong_world.Tie as tie
 
-cast-load-column : tie.Need-cast-load-column
-cast-load-column c = search needs
-
-slice-aggregate-load-column : tie.Need-slice-aggregate-load-column
-slice-aggregate-load-column c = search needs
-
 load-column-requires : tie.Need-load-column-requires
 load-column-requires c κs =
     let ranged = c .before .before .before .pre .0 in
     (column-there _ _ ranged flatStart (omega arith), flats-fit _ _ ranged _ flatTable refl (omega arith))
 
-add-load-column : tie.Need-add-load-column
-add-load-column c = search needs
-
-cast-load-column-2 : tie.Need-cast-load-column-2
-cast-load-column-2 c = search needs
-
-slice-aggregate-load-column-2 : tie.Need-slice-aggregate-load-column-2
-slice-aggregate-load-column-2 c = search needs
-
 load-column-requires-2 : tie.Need-load-column-requires-2
 load-column-requires-2 c κs =
     let ranged = c .before .before .before .before .before .before .before .pre .0 in
     (column-there _ _ ranged (flatStart + setBytes) (omega arith), flats-fit _ _ ranged _ flatTable refl (omega arith))
-
-slice-aggregate-judge-worlds : tie.Need-slice-aggregate-judge-worlds
-slice-aggregate-judge-worlds c = search needs
-
-slice-aggregate-judge-worlds-2 : tie.Need-slice-aggregate-judge-worlds-2
-slice-aggregate-judge-worlds-2 c = search needs
 
 judge-worlds-requires : tie.Need-judge-worlds-requires
 judge-worlds-requires c κs =
@@ -47,21 +26,18 @@ judge-worlds-requires c κs =
     let given = left-loaded .before .before .before .before in
     worlds-ready _ _ (given .pre .0) _ _ _ _ (left-loaded .load-column .ensures) (right-loaded .load-column2 .ensures) (given .pre .1)
 
-returns : tie.Need-returns
-returns c = search needs
-
 pub wrong-world-spec : {M : Type 1} → statement M
 wrong-world-spec =
     tie.close
     (tie.spec
-    cast-load-column
-    slice-aggregate-load-column
+    (λ c. search needs)
+    (λ c. search needs)
     load-column-requires
-    add-load-column
-    cast-load-column-2
-    slice-aggregate-load-column-2
+    (λ c. search needs)
+    (λ c. search needs)
+    (λ c. search needs)
     load-column-requires-2
-    slice-aggregate-judge-worlds
-    slice-aggregate-judge-worlds-2
+    (λ c. search needs)
+    (λ c. search needs)
     judge-worlds-requires
-    returns)
+    (λ c. search needs))

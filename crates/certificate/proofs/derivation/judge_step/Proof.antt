@@ -6,9 +6,6 @@ use Rattle.certificate.proofs.Learning.{steps-room, number-small, step-
 use Rattle.certificate.proofs.derivation.judge_step.Statement.{statement}
 use Rattle.certificate.proofs.derivation.judge_step.Tie as tie
 
-claim-at-requires : tie.Need-claim-at-requires
-claim-at-requires c κs = search needs
-
 mul-step-from : tie.Need-mul-step-from
 mul-step-from c = let given = c .before .before .before .before in omega (arith, steps-room _ _ (given .pre .ranged) (given .pre .derives), given .pre .listed)
 
@@ -18,57 +15,12 @@ add-step-from c = let given = c .before .before .before .before in omega (arith,
 step-from-requires : tie.Need-step-from-requires
 step-from-requires c κs = let given = c .before .before .before .before in omega (arith, steps-room _ _ (given .pre .ranged) (given .pre .derives), given .pre .listed, c .claim-at .ensures)
 
-implications-at-requires : tie.Need-implications-at-requires
-implications-at-requires c κs = search needs
-
-cast-place : tie.Need-cast-place
-cast-place c = search needs
-
-mul-place : tie.Need-mul-place
-mul-place c = search needs
-
-add-place : tie.Need-add-place
-add-place c = search needs
-
 implication-from-requires : tie.Need-implication-from-requires
 implication-from-requires c κs =
     let read = c .before .before in
     let given = read .before .before .before .before .before in
     let small = number-small _ _ (given .pre .ranged) (given .pre .derives) _ (given .pre .listed) _ (read .before .claim-at .ensures) _ (read .step-from .ensures) in
     omega (arith, given .pre .ranged .sized, c .before .implications-at .ensures)
-
-cast-last : tie.Need-cast-last
-cast-last c = search needs
-
-add-last : tie.Need-add-last
-add-last c = search needs
-
-byte-requires : tie.Need-byte-requires
-byte-requires c κs = search needs
-
-proves-requires : tie.Need-proves-requires
-proves-requires c κs = search needs
-
-single-requires : tie.Need-single-requires
-single-requires c κs = search needs
-
-without-requires : tie.Need-without-requires
-without-requires c κs = search needs
-
-set-row-requires : tie.Need-set-row-requires
-set-row-requires c κs = search needs
-
-single-requires-2 : tie.Need-single-requires-2
-single-requires-2 c κs = search needs
-
-set-row-requires-2 : tie.Need-set-row-requires-2
-set-row-requires-2 c κs = search needs
-
-same-length : tie.Need-same-length
-same-length c = search needs
-
-same-length-2 : tie.Need-same-length-2
-same-length-2 c = search needs
 
 returns : tie.Need-returns
 returns c =
@@ -95,24 +47,24 @@ pub judge-step-spec : {M : Type 1} → statement M
 judge-step-spec =
     tie.close
     (tie.spec
-    claim-at-requires
+    (λ c κs. search needs)
     mul-step-from
     add-step-from
     step-from-requires
-    implications-at-requires
-    cast-place
-    mul-place
-    add-place
+    (λ c κs. search needs)
+    (λ c. search needs)
+    (λ c. search needs)
+    (λ c. search needs)
     implication-from-requires
-    cast-last
-    add-last
-    byte-requires
-    proves-requires
-    single-requires
-    without-requires
-    set-row-requires
-    single-requires-2
-    set-row-requires-2
-    same-length
-    same-length-2
+    (λ c. search needs)
+    (λ c. search needs)
+    (λ c κs. search needs)
+    (λ c κs. search needs)
+    (λ c κs. search needs)
+    (λ c κs. search needs)
+    (λ c κs. search needs)
+    (λ c κs. search needs)
+    (λ c κs. search needs)
+    (λ c. search needs)
+    (λ c. search needs)
     returns)

@@ -17,9 +17,6 @@ Inv-loop bytes k left₀ right₀ count i₀ left right i = Progress bytes k i l
 abbrev μ-loop : tie.MeasureT-loop
 μ-loop bytes k left₀ right₀ count i₀ left right i = k .rows - i
 
-cast-count : tie.Need-cast-count Inv-loop μ-loop
-cast-count c = search needs
-
 loop-holds : tie.Need-loop-holds Inv-loop μ-loop
 loop-holds c = progress-none _ _ _ _ (c .before .before .before .before .pre)
 
@@ -53,23 +50,8 @@ loop-again c =
     progress-next _ _ _ _ (at-loop .before .before .before .before .before .pre) (at-loop .loop .i) _ _ (at-loop .loop .inv) (omega arith)
     _ _ _ (step .judge-step .ensures) (not-false _ (c .if1 .left))
 
-goal-at-requires : tie.Need-goal-at-requires Inv-loop μ-loop
-goal-at-requires c κs = search needs
-
-byte-requires : tie.Need-byte-requires Inv-loop μ-loop
-byte-requires c κs = search needs
-
-cast-proves : tie.Need-cast-proves Inv-loop μ-loop
-cast-proves c = search needs
-
 add-proves : tie.Need-add-proves Inv-loop μ-loop
 add-proves c = let given = c .before .before .before .before .before .before .before .before .before .before .before in omega (arith, steps-room _ _ (given .pre .ranged) (given .pre .derives))
-
-byte-requires-2 : tie.Need-byte-requires-2 Inv-loop μ-loop
-byte-requires-2 c κs = search needs
-
-proves-requires : tie.Need-proves-requires Inv-loop μ-loop
-proves-requires c κs = search needs
 
 same-length-3 : tie.Need-same-length-3 Inv-loop μ-loop
 same-length-3 c = c .before .before .before .before .before .before .before .before .before .loop .inv .size-left
@@ -109,7 +91,7 @@ judge-steps-spec =
     (tie.spec
     Inv-loop
     μ-loop
-    cast-count
+    (λ c. search needs)
     loop-holds
     judge-step-requires
     same-length
@@ -118,12 +100,12 @@ judge-steps-spec =
     add-i
     loop-less
     loop-again
-    goal-at-requires
-    byte-requires
-    cast-proves
+    (λ c κs. search needs)
+    (λ c κs. search needs)
+    (λ c. search needs)
     add-proves
-    byte-requires-2
-    proves-requires
+    (λ c κs. search needs)
+    (λ c κs. search needs)
     same-length-3
     same-length-4
     returns-2

@@ -6,15 +6,6 @@ use Rattle.sat.specs.Answer.{answerOf}
 use Rattle.certificate.proofs.derivation.proves.Statement.{statement}
 use Rattle.certificate.proofs.derivation.proves.Tie as tie
 
-ask-requires : tie.Need-ask-requires
-ask-requires c κs = search needs
-
-enum-told : tie.Need-enum-told
-enum-told c = search needs
-
-enum-told-2 : tie.Need-enum-told-2
-enum-told-2 c = search needs
-
 returns : tie.Need-returns
 unfolding isNone
 returns c = ap (λ z. isNone (answerOf z)) (sym (c .enum-told .given .1)) ∙ ap isNone (c .before .before .ask .ensures)
@@ -24,4 +15,4 @@ unfolding isNone
 returns-2 c = ap (λ z. isNone (answerOf z)) (sym (c .enum-told2 .given .1)) ∙ ap isNone (c .before .before .ask .ensures)
 
 pub proves-spec : {M : Type 1} → statement M
-proves-spec = tie.close (tie.spec ask-requires enum-told enum-told-2 returns returns-2)
+proves-spec = tie.close (tie.spec (λ c κs. search needs) (λ c. search needs) (λ c. search needs) returns returns-2)

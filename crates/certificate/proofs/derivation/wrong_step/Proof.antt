@@ -9,36 +9,15 @@ use Rattle.certificate.proofs.Judging.{flats-fit, column-there, steps-r
 use Rattle.certificate.proofs.derivation.wrong_step.Statement.{statement}
 use Rattle.certificate.proofs.derivation.wrong_step.Tie as tie
 
-cast-load-column : tie.Need-cast-load-column
-cast-load-column c = search needs
-
-slice-aggregate-load-column : tie.Need-slice-aggregate-load-column
-slice-aggregate-load-column c = search needs
-
 load-column-requires : tie.Need-load-column-requires
 load-column-requires c κs =
     let ranged = c .before .before .before .pre .0 in
     (column-there _ _ ranged flatStart (omega arith), flats-fit _ _ ranged _ (flatTable + stepTable) refl (omega arith))
 
-add-load-column : tie.Need-add-load-column
-add-load-column c = search needs
-
-cast-load-column-2 : tie.Need-cast-load-column-2
-cast-load-column-2 c = search needs
-
-slice-aggregate-load-column-2 : tie.Need-slice-aggregate-load-column-2
-slice-aggregate-load-column-2 c = search needs
-
 load-column-requires-2 : tie.Need-load-column-requires-2
 load-column-requires-2 c κs =
     let ranged = c .before .before .before .before .before .before .before .pre .0 in
     (column-there _ _ ranged (flatStart + setBytes) (omega arith), flats-fit _ _ ranged _ (flatTable + stepTable) refl (omega arith))
-
-slice-aggregate-judge-steps : tie.Need-slice-aggregate-judge-steps
-slice-aggregate-judge-steps c = search needs
-
-slice-aggregate-judge-steps-2 : tie.Need-slice-aggregate-judge-steps-2
-slice-aggregate-judge-steps-2 c = search needs
 
 judge-steps-requires : tie.Need-judge-steps-requires
 judge-steps-requires c κs =
@@ -47,21 +26,18 @@ judge-steps-requires c κs =
     let given = left-loaded .before .before .before .before in
     steps-ready _ _ (given .pre .0) _ _ _ _ (left-loaded .load-column .ensures) (right-loaded .load-column2 .ensures) (given .pre .1) refl refl
 
-returns : tie.Need-returns
-returns c = search needs
-
 pub wrong-step-spec : {M : Type 1} → statement M
 wrong-step-spec =
     tie.close
     (tie.spec
-    cast-load-column
-    slice-aggregate-load-column
+    (λ c. search needs)
+    (λ c. search needs)
     load-column-requires
-    add-load-column
-    cast-load-column-2
-    slice-aggregate-load-column-2
+    (λ c. search needs)
+    (λ c. search needs)
+    (λ c. search needs)
     load-column-requires-2
-    slice-aggregate-judge-steps
-    slice-aggregate-judge-steps-2
+    (λ c. search needs)
+    (λ c. search needs)
     judge-steps-requires
-    returns)
+    (λ c. search needs))

@@ -22,12 +22,6 @@ mul-load c = omega arith
 add-load : tie.Need-add-load Inv-loop μ-loop
 add-load c = omega arith
 
-load-requires : tie.Need-load-requires Inv-loop μ-loop
-load-requires c κs = search needs
-
-set-row-requires : tie.Need-set-row-requires Inv-loop μ-loop
-set-row-requires c κs = search needs
-
 add-i : tie.Need-add-i Inv-loop μ-loop
 add-i c = omega arith
 
@@ -55,8 +49,8 @@ load-column-spec =
     loop-holds
     mul-load
     add-load
-    load-requires
-    set-row-requires
+    (λ c κs. search needs)
+    (λ c κs. search needs)
     add-i
     loop-less
     loop-again

@@ -19,11 +19,8 @@ whole-read s r h = go r (subst (λ L. BeginningRead s L r) (omega arith) h)
     go (Read k) h = h
     go (Refused number) h = (h .0, whole-unlaid s (h .1))
 
-read-beginning-requires : tie.Need-read-beginning-requires
-read-beginning-requires c κs = search needs
-
 returns : tie.Need-returns
 returns c = whole-read _ (c .read-beginning .result) (c .read-beginning .ensures)
 
 pub read-spec : {M : Type 1} → statement M
-read-spec = tie.close (tie.spec read-beginning-requires returns)
+read-spec = tie.close (tie.spec (λ c κs. search needs) returns)

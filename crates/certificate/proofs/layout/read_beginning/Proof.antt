@@ -6,35 +6,11 @@ use Rattle.certificate.proofs.Entries.{broken-four, broken-first, broke
 use Rattle.certificate.proofs.layout.read_beginning.Statement.{statement}
 use Rattle.certificate.proofs.layout.read_beginning.Tie as tie
 
-byte-requires : tie.Need-byte-requires
-byte-requires c κs = search needs
-
 returns : tie.Need-returns
 returns c = (refl, λ there. broken-four _ _ _ (c .before .byte .ensures) (c .if1 .taken))
 
-read-entry-requires : tie.Need-read-entry-requires
-read-entry-requires c κs = search needs
-
-enum-known-flats : tie.Need-enum-known-flats
-enum-known-flats c = search needs
-
-enum-told : tie.Need-enum-told
-enum-told c = search needs
-
 returns-2 : tie.Need-returns-2
 returns-2 c = (refl, broken-first _ _ (subst (EntryRead _ _ _ _ _ _) (c .enum-told .given .1) (c .before .before .read-entry .ensures)))
-
-implications-at-requires : tie.Need-implications-at-requires
-implications-at-requires c κs = search needs
-
-read-entry-requires-2 : tie.Need-read-entry-requires-2
-read-entry-requires-2 c κs = search needs
-
-enum-known-implications : tie.Need-enum-known-implications
-enum-known-implications c = search needs
-
-enum-told-2 : tie.Need-enum-told-2
-enum-told-2 c = search needs
 
 returns-3 : tie.Need-returns-3
 returns-3 c =
@@ -44,18 +20,6 @@ returns-3 c =
       broken-second _ _ _ _ (subst (EntryRead _ _ _ _ _ _) (first .flats .given .1) (first .before .before .read-entry .ensures)) _ (read .before .implications-at .ensures)
           (subst (EntryRead _ _ _ _ _ _) (c .enum-told2 .given .1) (read .read-entry2 .ensures)),
     )
-
-goal-at-requires : tie.Need-goal-at-requires
-goal-at-requires c κs = search needs
-
-read-entry-requires-3 : tie.Need-read-entry-requires-3
-read-entry-requires-3 c κs = search needs
-
-enum-known-goals : tie.Need-enum-known-goals
-enum-known-goals c = search needs
-
-enum-told-3 : tie.Need-enum-told-3
-enum-told-3 c = search needs
 
 returns-4 : tie.Need-returns-4
 returns-4 c =
@@ -103,21 +67,21 @@ pub read-beginning-spec : {M : Type 1} → statement M
 read-beginning-spec =
     tie.close
     (tie.spec
-    byte-requires
+    (λ c κs. search needs)
     returns
-    read-entry-requires
-    enum-known-flats
-    enum-told
+    (λ c κs. search needs)
+    (λ c. search needs)
+    (λ c. search needs)
     returns-2
-    implications-at-requires
-    read-entry-requires-2
-    enum-known-implications
-    enum-told-2
+    (λ c κs. search needs)
+    (λ c κs. search needs)
+    (λ c. search needs)
+    (λ c. search needs)
     returns-3
-    goal-at-requires
-    read-entry-requires-3
-    enum-known-goals
-    enum-told-3
+    (λ c κs. search needs)
+    (λ c κs. search needs)
+    (λ c. search needs)
+    (λ c. search needs)
     returns-4
     returns-5
     read-claim-requires

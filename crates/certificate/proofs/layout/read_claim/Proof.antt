@@ -10,28 +10,10 @@ use Rattle.certificate.proofs.Entries.{width-positive, claim-missing, c
 use Rattle.certificate.proofs.layout.read_claim.Statement.{statement}
 use Rattle.certificate.proofs.layout.read_claim.Tie as tie
 
-byte-requires : tie.Need-byte-requires
-byte-requires c κs = search needs
-
-claim-width-requires : tie.Need-claim-width-requires
-claim-width-requires c κs = search needs
-
-claim-kind-requires : tie.Need-claim-kind-requires
-claim-kind-requires c κs = search needs
-
-claim-at-requires : tie.Need-claim-at-requires
-claim-at-requires c κs = search needs
-
 read-entry-requires : tie.Need-read-entry-requires
 read-entry-requires c κs =
     let width = c .before .before in
     subst (λ z. 0 < z) (sym (width .claim-width .ensures)) (width-positive (eqb (width .before .byte .result) worldKind))
-
-enum-known-rows : tie.Need-enum-known-rows
-enum-known-rows c = search needs
-
-enum-told : tie.Need-enum-told
-enum-told c = search needs
 
 returns : tie.Need-returns
 returns c =
@@ -46,9 +28,6 @@ returns c =
           (subst (EntryRead _ _ _ _ _ _) (c .enum-told .given .1) (read .read-entry .ensures)),
     )
 
-claim-least-requires : tie.Need-claim-least-requires
-claim-least-requires c κs = search needs
-
 returns-2 : tie.Need-returns-2
 returns-2 c =
     let found = c .before .before .before in
@@ -62,12 +41,6 @@ returns-2 c =
       λ there. claim-few _ _ _ _ _ _ _ _ _ (given .pre) (byte .byte .ensures) (kind .claim-kind .ensures) (place .claim-at .ensures) (width .claim-width .ensures)
           _ _ (subst (EntryRead _ _ _ _ _ _) (found .rows .given .1) (read .read-entry .ensures)) _ (c .before .claim-least .ensures) (c .if1 .taken),
     )
-
-length-requires : tie.Need-length-requires
-length-requires c κs = search needs
-
-makes-up-requires : tie.Need-makes-up-requires
-makes-up-requires c κs = search needs
 
 returns-3 : tie.Need-returns-3
 returns-3 c =
@@ -102,17 +75,17 @@ pub read-claim-spec : {M : Type 1} → statement M
 read-claim-spec =
     tie.close
     (tie.spec
-    byte-requires
-    claim-width-requires
-    claim-kind-requires
-    claim-at-requires
+    (λ c κs. search needs)
+    (λ c κs. search needs)
+    (λ c κs. search needs)
+    (λ c κs. search needs)
     read-entry-requires
-    enum-known-rows
-    enum-told
+    (λ c. search needs)
+    (λ c. search needs)
     returns
-    claim-least-requires
+    (λ c κs. search needs)
     returns-2
-    length-requires
-    makes-up-requires
+    (λ c κs. search needs)
+    (λ c κs. search needs)
     returns-3
     returns-4)

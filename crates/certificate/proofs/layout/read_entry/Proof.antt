@@ -19,15 +19,6 @@ few : (c : tie.After-row) → let given = c .before .before .before .before .arg
     given .width * ((c .row .given .0 .1 .1 .0 - given .extra) / given .width) ≤ c .row .given .0 .1 .1 .0
 few c = let given = c .before .before .before .before .args in rows-few (c .row .given .0 .1 .1 .0) (given .extra) (given .width)
 
-take-requires : tie.Need-take-requires
-take-requires c κs = search needs
-
-enum-known-row : tie.Need-enum-known-row
-enum-known-row c = search needs
-
-enum-told : tie.Need-enum-told
-enum-told c = search needs
-
 returns : tie.Need-returns
 returns c = λ there. absurd (omega (arith, there, end-taken _ _ _ (c .before .before .take .ensures) (c .enum-told .given .1)))
 
@@ -45,9 +36,6 @@ returns-4 : tie.Need-returns-4
 returns-4 c =
     let found = c .before .before .before .before in
     λ there. entry-short _ _ _ _ _ _ _ (taken found .size-is) (c .if3 .taken)
-
-div-count : tie.Need-div-count
-div-count c = search needs
 
 mul-if4 : tie.Need-mul-if4
 mul-if4 c = let found = c .before .before .before .before in record { fits = omega (arith, few found, taken found .size-short) }
@@ -77,14 +65,14 @@ pub read-entry-spec : {M : Type 1} → statement M
 read-entry-spec =
     tie.close
     (tie.spec
-    take-requires
-    enum-known-row
-    enum-told
+    (λ c κs. search needs)
+    (λ c. search needs)
+    (λ c. search needs)
     returns
     returns-2
     returns-3
     returns-4
-    div-count
+    (λ c. search needs)
     mul-if4
     add-if4
     returns-5

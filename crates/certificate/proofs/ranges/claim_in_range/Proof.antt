@@ -6,12 +6,6 @@ use Rattle.certificate.proofs.Numbers.{worlds-range, worlds-many, steps
 use Rattle.certificate.proofs.ranges.claim_in_range.Statement.{statement}
 use Rattle.certificate.proofs.ranges.claim_in_range.Tie as tie
 
-cast-count : tie.Need-cast-count
-cast-count c = search needs
-
-claim-at-requires : tie.Need-claim-at-requires
-claim-at-requires c κs = search needs
-
 worlds-in-range-requires : tie.Need-worlds-in-range-requires
 worlds-in-range-requires c κs =
     let refutes = c .before .before in
@@ -25,12 +19,6 @@ returns c =
 
 returns-2 : tie.Need-returns-2
 returns-2 c = worlds-many _ _ _ _ _ _ (c .before .if1 .taken) (c .if2 .left)
-
-claim-at-requires-2 : tie.Need-claim-at-requires-2
-claim-at-requires-2 c κs = search needs
-
-cast-steps-in-range : tie.Need-cast-steps-in-range
-cast-steps-in-range c = search needs
 
 steps-in-range-requires : tie.Need-steps-in-range-requires
 steps-in-range-requires c κs =
@@ -50,13 +38,13 @@ pub claim-in-range-spec : {M : Type 1} → statement M
 claim-in-range-spec =
     tie.close
     (tie.spec
-    cast-count
-    claim-at-requires
+    (λ c. search needs)
+    (λ c κs. search needs)
     worlds-in-range-requires
     returns
     returns-2
-    claim-at-requires-2
-    cast-steps-in-range
+    (λ c κs. search needs)
+    (λ c. search needs)
     steps-in-range-requires
     returns-3
     returns-4)

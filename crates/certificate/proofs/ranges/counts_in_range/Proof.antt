@@ -5,15 +5,6 @@ use Rattle.certificate.proofs.Numbers.{counts-atoms, counts-flats, coun
 use Rattle.certificate.proofs.ranges.counts_in_range.Statement.{statement}
 use Rattle.certificate.proofs.ranges.counts_in_range.Tie as tie
 
-count-in-range-requires : tie.Need-count-in-range-requires
-count-in-range-requires c κs = search needs
-
-cast-if2 : tie.Need-cast-if2
-cast-if2 c = search needs
-
-cast-result : tie.Need-cast-result
-cast-result c = search needs
-
 returns : tie.Need-returns
 returns c =
     let few = c .before in
@@ -30,4 +21,4 @@ returns-3 c = counts-atoms _ _ _ (sym (c .before .count-in-range .ensures) ∙ c
 
 pub counts-in-range-spec : {M : Type 1} → statement M
 counts-in-range-spec =
-    tie.close (tie.spec count-in-range-requires cast-if2 cast-result returns returns-2 returns-3)
+    tie.close (tie.spec (λ c κs. search needs) (λ c. search needs) (λ c. search needs) returns returns-2 returns-3)

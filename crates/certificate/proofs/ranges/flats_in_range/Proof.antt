@@ -37,9 +37,6 @@ add-flat-from c = omega arith
 flat-from-requires : tie.Need-flat-from-requires Inv-loop μ-loop
 flat-from-requires c κs = omega arith
 
-flat-in-range-requires : tie.Need-flat-in-range-requires Inv-loop μ-loop
-flat-in-range-requires c κs = search needs
-
 returns : tie.Need-returns Inv-loop μ-loop
 returns c =
     let test = c .before in
@@ -82,7 +79,7 @@ flats-in-range-spec =
     mul-flat-from
     add-flat-from
     flat-from-requires
-    flat-in-range-requires
+    (λ c κs. search needs)
     returns
     add-i
     loop-less

@@ -37,9 +37,6 @@ add-implication-from c = omega arith
 implication-from-requires : tie.Need-implication-from-requires Inv-loop μ-loop
 implication-from-requires c κs = omega arith
 
-implication-in-range-requires : tie.Need-implication-in-range-requires Inv-loop μ-loop
-implication-in-range-requires c κs = search needs
-
 returns : tie.Need-returns Inv-loop μ-loop
 returns c =
     let test = c .before in
@@ -82,7 +79,7 @@ implications-in-range-spec =
     mul-implication-from
     add-implication-from
     implication-from-requires
-    implication-in-range-requires
+    (λ c κs. search needs)
     returns
     add-i
     loop-less

@@ -6,35 +6,14 @@ use Rattle.certificate.proofs.Numbers.{range-counts, range-goal, range-
 use Rattle.certificate.proofs.ranges.in_range.Statement.{statement}
 use Rattle.certificate.proofs.ranges.in_range.Tie as tie
 
-byte-requires : tie.Need-byte-requires
-byte-requires c κs = search needs
-
-counts-in-range-requires : tie.Need-counts-in-range-requires
-counts-in-range-requires c κs = search needs
-
 returns : tie.Need-returns
 returns c = range-counts _ _ _ _ _ (c .before .before .byte .ensures) (sym (c .before .counts-in-range .ensures) ∙ not-true _ (c .if1 .taken))
-
-goal-at-requires : tie.Need-goal-at-requires
-goal-at-requires c κs = search needs
-
-byte-requires-2 : tie.Need-byte-requires-2
-byte-requires-2 c κs = search needs
-
-atom-or-bottom-requires : tie.Need-atom-or-bottom-requires
-atom-or-bottom-requires c κs = search needs
 
 returns-2 : tie.Need-returns-2
 returns-2 c =
     let counted = c .before .before .before .before in
     range-goal _ _ _ _ _ (counted .before .before .byte .ensures) (sym (counted .before .counts-in-range .ensures) ∙ not-false _ (counted .if1 .left))
     _ (c .before .before .before .goal-at .ensures) _ (c .before .before .byte2 .ensures) (sym (c .before .atom-or-bottom .ensures) ∙ not-true _ (c .if2 .taken))
-
-cast-flats-in-range : tie.Need-cast-flats-in-range
-cast-flats-in-range c = search needs
-
-flats-in-range-requires : tie.Need-flats-in-range-requires
-flats-in-range-requires c κs = search needs
 
 returns-3 : tie.Need-returns-3
 returns-3 c =
@@ -43,15 +22,6 @@ returns-3 c =
     range-flats _ _ _ _ _ (counted .before .before .byte .ensures) (sym (counted .before .counts-in-range .ensures) ∙ not-false _ (counted .if1 .left))
     _ (asked .before .before .before .goal-at .ensures) _ (asked .before .before .byte2 .ensures)
     (sym (asked .before .atom-or-bottom .ensures) ∙ not-false _ (asked .if2 .left)) (sym (c .before .flats-in-range .ensures) ∙ not-true _ (c .if3 .taken))
-
-implications-at-requires : tie.Need-implications-at-requires
-implications-at-requires c κs = search needs
-
-cast-implications-in-range : tie.Need-cast-implications-in-range
-cast-implications-in-range c = search needs
-
-implications-in-range-requires : tie.Need-implications-in-range-requires
-implications-in-range-requires c κs = search needs
 
 returns-4 : tie.Need-returns-4
 returns-4 c =
@@ -62,9 +32,6 @@ returns-4 c =
     _ (asked .before .before .before .goal-at .ensures) _ (asked .before .before .byte2 .ensures)
     (sym (asked .before .atom-or-bottom .ensures) ∙ not-false _ (asked .if2 .left)) (sym (listed .before .flats-in-range .ensures) ∙ not-false _ (listed .if3 .left))
     _ (c .before .before .before .implications-at .ensures) (sym (c .before .implications-in-range .ensures) ∙ not-true _ (c .if4 .taken))
-
-claim-in-range-requires : tie.Need-claim-in-range-requires
-claim-in-range-requires c κs = search needs
 
 returns-5 : tie.Need-returns-5
 returns-5 c =
@@ -82,19 +49,19 @@ pub in-range-spec : {M : Type 1} → statement M
 in-range-spec =
     tie.close
     (tie.spec
-    byte-requires
-    counts-in-range-requires
+    (λ c κs. search needs)
+    (λ c κs. search needs)
     returns
-    goal-at-requires
-    byte-requires-2
-    atom-or-bottom-requires
+    (λ c κs. search needs)
+    (λ c κs. search needs)
+    (λ c κs. search needs)
     returns-2
-    cast-flats-in-range
-    flats-in-range-requires
+    (λ c. search needs)
+    (λ c κs. search needs)
     returns-3
-    implications-at-requires
-    cast-implications-in-range
-    implications-in-range-requires
+    (λ c κs. search needs)
+    (λ c. search needs)
+    (λ c κs. search needs)
     returns-4
-    claim-in-range-requires
+    (λ c κs. search needs)
     returns-5)

@@ -36,9 +36,6 @@ add-step-from c = omega arith
 step-from-requires : tie.Need-step-from-requires Inv-loop μ-loop
 step-from-requires c κs = omega arith
 
-step-in-range-requires : tie.Need-step-in-range-requires Inv-loop μ-loop
-step-in-range-requires c κs = search needs
-
 returns : tie.Need-returns Inv-loop μ-loop
 returns c =
     let test = c .before in
@@ -81,7 +78,7 @@ steps-in-range-spec =
     mul-step-from
     add-step-from
     step-from-requires
-    step-in-range-requires
+    (λ c κs. search needs)
     returns
     add-i
     loop-less

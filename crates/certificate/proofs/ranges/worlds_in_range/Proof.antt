@@ -33,12 +33,6 @@ mul-load c = omega arith
 add-load : tie.Need-add-load Inv-loop μ-loop
 add-load c = omega arith
 
-load-requires : tie.Need-load-requires Inv-loop μ-loop
-load-requires c κs = search needs
-
-set-in-range-requires : tie.Need-set-in-range-requires Inv-loop μ-loop
-set-in-range-requires c κs = search needs
-
 returns : tie.Need-returns Inv-loop μ-loop
 returns c =
     let test = c .before in
@@ -80,8 +74,8 @@ worlds-in-range-spec =
     loop-holds
     mul-load
     add-load
-    load-requires
-    set-in-range-requires
+    (λ c κs. search needs)
+    (λ c κs. search needs)
     returns
     add-i
     loop-less

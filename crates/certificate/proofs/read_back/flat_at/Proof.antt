@@ -7,18 +7,6 @@ use Rattle.certificate.proofs.RowsBack.{flat-past, flat-there, flat-fit
 use Rattle.certificate.proofs.read_back.flat_at.Statement.{statement}
 use Rattle.certificate.proofs.read_back.flat_at.Tie as tie
 
-kept-requires : tie.Need-kept-requires
-kept-requires c κs = search needs
-
-cast-if1 : tie.Need-cast-if1
-cast-if1 c = search needs
-
-mul-flat-from : tie.Need-mul-flat-from
-mul-flat-from c = search needs
-
-add-flat-from : tie.Need-add-flat-from
-add-flat-from c = search needs
-
 flat-from-requires : tie.Need-flat-from-requires
 flat-from-requires c κs = flat-fits _ _ _ (c .before .before .kept .ensures) (c .if1 .taken)
 
@@ -32,10 +20,10 @@ pub flat-at-spec : {M : Type 1} → statement M
 flat-at-spec =
     tie.close
     (tie.spec
-    kept-requires
-    cast-if1
-    mul-flat-from
-    add-flat-from
+    (λ c κs. search needs)
+    (λ c. search needs)
+    (λ c. search needs)
+    (λ c. search needs)
     flat-from-requires
     returns
     returns-2)

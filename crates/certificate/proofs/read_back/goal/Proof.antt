@@ -6,21 +6,6 @@ use Rattle.certificate.proofs.RowsBack.{unlaid-goal, laid-goal}
 use Rattle.certificate.proofs.read_back.goal.Statement.{statement}
 use Rattle.certificate.proofs.read_back.goal.Tie as tie
 
-read-requires : tie.Need-read-requires
-read-requires c κs = search needs
-
-enum-known-k : tie.Need-enum-known-k
-enum-known-k c = search needs
-
-goal-at-requires : tie.Need-goal-at-requires
-goal-at-requires c κs = search needs
-
-byte-requires : tie.Need-byte-requires
-byte-requires c κs = search needs
-
-enum-told : tie.Need-enum-told
-enum-told c = search needs
-
 returns : tie.Need-returns
 returns c =
     let found = c .before .before .before in
@@ -33,10 +18,10 @@ pub goal-spec : {M : Type 1} → statement M
 goal-spec =
     tie.close
     (tie.spec
-    read-requires
-    enum-known-k
-    goal-at-requires
-    byte-requires
-    enum-told
+    (λ c κs. search needs)
+    (λ c. search needs)
+    (λ c κs. search needs)
+    (λ c κs. search needs)
+    (λ c. search needs)
     returns
     returns-2)

@@ -5,21 +5,6 @@ use Rattle.certificate.proofs.RowsBack.{implication-past, implication-t
 use Rattle.certificate.proofs.read_back.implication_at.Statement.{statement}
 use Rattle.certificate.proofs.read_back.implication_at.Tie as tie
 
-kept-requires : tie.Need-kept-requires
-kept-requires c κs = search needs
-
-cast-if1 : tie.Need-cast-if1
-cast-if1 c = search needs
-
-implications-at-requires : tie.Need-implications-at-requires
-implications-at-requires c κs = search needs
-
-mul-implication-from : tie.Need-mul-implication-from
-mul-implication-from c = search needs
-
-add-implication-from : tie.Need-add-implication-from
-add-implication-from c = search needs
-
 implication-from-requires : tie.Need-implication-from-requires
 implication-from-requires c κs =
     let there = c .before in
@@ -37,11 +22,11 @@ pub implication-at-spec : {M : Type 1} → statement M
 implication-at-spec =
     tie.close
     (tie.spec
-    kept-requires
-    cast-if1
-    implications-at-requires
-    mul-implication-from
-    add-implication-from
+    (λ c κs. search needs)
+    (λ c. search needs)
+    (λ c κs. search needs)
+    (λ c. search needs)
+    (λ c. search needs)
     implication-from-requires
     returns
     returns-2)

@@ -8,21 +8,6 @@ use Rattle.certificate.proofs.RowsBack.{step-past, step-other, step-the
 use Rattle.certificate.proofs.read_back.step_at.Statement.{statement}
 use Rattle.certificate.proofs.read_back.step_at.Tie as tie
 
-kept-requires : tie.Need-kept-requires
-kept-requires c κs = search needs
-
-cast-if2 : tie.Need-cast-if2
-cast-if2 c = search needs
-
-claim-at-requires : tie.Need-claim-at-requires
-claim-at-requires c κs = search needs
-
-mul-step-from : tie.Need-mul-step-from
-mul-step-from c = search needs
-
-add-step-from : tie.Need-add-step-from
-add-step-from c = search needs
-
 step-from-requires : tie.Need-step-from-requires
 step-from-requires c κs =
     let there = c .before in
@@ -48,11 +33,11 @@ pub step-at-spec : {M : Type 1} → statement M
 step-at-spec =
     tie.close
     (tie.spec
-    kept-requires
-    cast-if2
-    claim-at-requires
-    mul-step-from
-    add-step-from
+    (λ c κs. search needs)
+    (λ c. search needs)
+    (λ c κs. search needs)
+    (λ c. search needs)
+    (λ c. search needs)
     step-from-requires
     returns
     returns-2

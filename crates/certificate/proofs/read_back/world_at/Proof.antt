@@ -6,24 +6,6 @@ use Rattle.certificate.proofs.RowsBack.{world-past, world-other, world-
 use Rattle.certificate.proofs.read_back.world_at.Statement.{statement}
 use Rattle.certificate.proofs.read_back.world_at.Tie as tie
 
-kept-requires : tie.Need-kept-requires
-kept-requires c κs = search needs
-
-cast-if2 : tie.Need-cast-if2
-cast-if2 c = search needs
-
-claim-at-requires : tie.Need-claim-at-requires
-claim-at-requires c κs = search needs
-
-mul-load : tie.Need-mul-load
-mul-load c = search needs
-
-add-load : tie.Need-add-load
-add-load c = search needs
-
-load-requires : tie.Need-load-requires
-load-requires c κs = search needs
-
 returns : tie.Need-returns
 returns c =
     let there = c .before .before in
@@ -42,12 +24,12 @@ pub world-at-spec : {M : Type 1} → statement M
 world-at-spec =
     tie.close
     (tie.spec
-    kept-requires
-    cast-if2
-    claim-at-requires
-    mul-load
-    add-load
-    load-requires
+    (λ c κs. search needs)
+    (λ c. search needs)
+    (λ c κs. search needs)
+    (λ c. search needs)
+    (λ c. search needs)
+    (λ c κs. search needs)
     returns
     returns-2
     returns-3)

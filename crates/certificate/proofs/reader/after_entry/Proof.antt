@@ -10,9 +10,6 @@ use Rattle.certificate.proofs.OneEntry.{next-there, next-past}
 use Rattle.certificate.proofs.reader.after_entry.Statement.{statement}
 use Rattle.certificate.proofs.reader.after_entry.Tie as tie
 
-stands-at-requires : tie.Need-stands-at-requires
-stands-at-requires c κs = search needs
-
 add-result : tie.Need-add-result
 add-result c =
     let given = c .before .before .before .args in
@@ -25,4 +22,4 @@ returns-2 : tie.Need-returns-2
 returns-2 c = next-past _ _ (sym (c .before .stands-at .ensures) ∙ c .if1 .left)
 
 pub after-entry-spec : {M : Type 1} → statement M
-after-entry-spec = tie.close (tie.spec stands-at-requires add-result returns returns-2)
+after-entry-spec = tie.close (tie.spec (λ c κs. search needs) add-result returns returns-2)

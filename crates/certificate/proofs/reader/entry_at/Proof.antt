@@ -21,26 +21,14 @@ room c =
     let given = c .before .before .before .args in
     leb-true (given .at + entryBytes) (length (given .bytes .now)) (stands c)
 
-stands-at-requires : tie.Need-stands-at-requires
-stands-at-requires c κs = search needs
-
 returns : tie.Need-returns
 returns c = entry-past _ _ (sym (c .before .stands-at .ensures) ∙ not-true _ (c .if1 .taken))
 
 add-number : tie.Need-add-number
 add-number c = omega (arith, room c)
 
-number-requires : tie.Need-number-requires
-number-requires c κs = search needs
-
 add-number-2 : tie.Need-add-number-2
 add-number-2 c = omega (arith, room (c .before))
-
-number-requires-2 : tie.Need-number-requires-2
-number-requires-2 c κs = search needs
-
-byte-requires : tie.Need-byte-requires
-byte-requires c κs = search needs
 
 returns-2 : tie.Need-returns-2
 returns-2 c = entry-there _ _ (stands (c .before .before .before)) _ _ _ (c .byte .ensures) (c .before .before .number .ensures) (c .before .number2 .ensures)
@@ -49,11 +37,11 @@ pub entry-at-spec : {M : Type 1} → statement M
 entry-at-spec =
     tie.close
     (tie.spec
-    stands-at-requires
+    (λ c κs. search needs)
     returns
     add-number
-    number-requires
+    (λ c κs. search needs)
     add-number-2
-    number-requires-2
-    byte-requires
+    (λ c κs. search needs)
+    (λ c κs. search needs)
     returns-2)

@@ -15,13 +15,10 @@ returns c =
     let given = c .before .args in
     sym (lt-leb (given .at + entryBytes) (length (given .bytes .now)) (omega arith))
 
-sub-result : tie.Need-sub-result
-sub-result c = search needs
-
 returns-2 : tie.Need-returns-2
 returns-2 c =
     let given = c .before .args in
     room-left (given .at) (length (given .bytes .now)) (omega arith)
 
 pub stands-at-spec : {M : Type 1} → statement M
-stands-at-spec = tie.close (tie.spec returns sub-result returns-2)
+stands-at-spec = tie.close (tie.spec returns (λ c. search needs) returns-2)

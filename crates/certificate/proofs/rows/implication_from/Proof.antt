@@ -14,24 +14,9 @@ made : (s : List ℕ) (at a b c : ℕ) → a ≡ getD s at 0 → b ≡ getD s (a
 unfolding implicationFrom
 made s at a b c ea eb ec = rw (← ea, ← eb, ← ec) refl
 
-byte-requires : tie.Need-byte-requires
-byte-requires c κs = search needs
-
-add-byte : tie.Need-add-byte
-add-byte c = search needs
-
-byte-requires-2 : tie.Need-byte-requires-2
-byte-requires-2 c κs = search needs
-
-add-byte-2 : tie.Need-add-byte-2
-add-byte-2 c = search needs
-
-byte-requires-3 : tie.Need-byte-requires-3
-byte-requires-3 c κs = search needs
-
 returns : tie.Need-returns
 returns c = made _ _ _ _ _ (c .before .before .byte .ensures) (c .before .byte2 .ensures) (c .byte3 .ensures)
 
 pub implication-from-spec : {M : Type 1} → statement M
 implication-from-spec =
-    tie.close (tie.spec byte-requires add-byte byte-requires-2 add-byte-2 byte-requires-3 returns)
+    tie.close (tie.spec (λ c κs. search needs) (λ c. search needs) (λ c κs. search needs) (λ c. search needs) (λ c κs. search needs) returns)

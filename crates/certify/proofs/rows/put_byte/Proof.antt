@@ -4,14 +4,8 @@ use Rattle.certify.proofs.Parts.{byte-put}
 use Rattle.certify.proofs.rows.put_byte.Statement.{statement}
 use Rattle.certify.proofs.rows.put_byte.Tie as tie
 
-put-requires : tie.Need-put-requires
-put-requires c κs = search needs
-
-same-length : tie.Need-same-length
-same-length c = search needs
-
 returns : tie.Need-returns
 returns c = byte-put _ _ _ _ (search needs) (c .before .before .put .ensures)
 
 pub put-byte-spec : {M : Type 1} → statement M
-put-byte-spec = tie.close (tie.spec put-requires same-length returns)
+put-byte-spec = tie.close (tie.spec (λ c κs. search needs) (λ c. search needs) returns)

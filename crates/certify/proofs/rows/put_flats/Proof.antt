@@ -23,27 +23,6 @@ abbrev μ-loop : tie.MeasureT-loop
 loop-holds : tie.Need-loop-holds Inv-loop μ-loop
 loop-holds c = (omega arith, refl, rows-none flatRow flatBytes length-flat _ _ _)
 
-mul-put-flat : tie.Need-mul-put-flat Inv-loop μ-loop
-mul-put-flat c = search needs
-
-add-put-flat : tie.Need-add-put-flat Inv-loop μ-loop
-add-put-flat c = search needs
-
-row-requires : tie.Need-row-requires Inv-loop μ-loop
-row-requires c κs = search needs
-
-row-requires-2 : tie.Need-row-requires-2 Inv-loop μ-loop
-row-requires-2 c κs = search needs
-
-put-flat-requires : tie.Need-put-flat-requires Inv-loop μ-loop
-put-flat-requires c κs = search needs
-
-add-i : tie.Need-add-i Inv-loop μ-loop
-add-i c = search needs
-
-loop-less : tie.Need-loop-less Inv-loop μ-loop
-loop-less c = search needs
-
 loop-again : tie.Need-loop-again Inv-loop μ-loop
 loop-again c =
     let row-put = c .before .before in
@@ -75,13 +54,13 @@ put-flats-spec =
     Inv-loop
     μ-loop
     loop-holds
-    mul-put-flat
-    add-put-flat
-    row-requires
-    row-requires-2
-    put-flat-requires
-    add-i
-    loop-less
+    (λ c. search needs)
+    (λ c. search needs)
+    (λ c κs. search needs)
+    (λ c κs. search needs)
+    (λ c κs. search needs)
+    (λ c. search needs)
+    (λ c. search needs)
     loop-again
     same-length
     returns)

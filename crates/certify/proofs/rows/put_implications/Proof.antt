@@ -22,30 +22,6 @@ abbrev μ-loop : tie.MeasureT-loop
 loop-holds : tie.Need-loop-holds Inv-loop μ-loop
 loop-holds c = (omega arith, refl, rows-none implicationRow implicationBytes length-implication _ _ _)
 
-mul-put-implication : tie.Need-mul-put-implication Inv-loop μ-loop
-mul-put-implication c = search needs
-
-add-put-implication : tie.Need-add-put-implication Inv-loop μ-loop
-add-put-implication c = search needs
-
-element-copy-out-put-implication : tie.Need-element-copy-out-put-implication Inv-loop μ-loop
-element-copy-out-put-implication c = search needs
-
-element-copy-out-put-implication-2 : tie.Need-element-copy-out-put-implication-2 Inv-loop μ-loop
-element-copy-out-put-implication-2 c = search needs
-
-element-copy-out-put-implication-3 : tie.Need-element-copy-out-put-implication-3 Inv-loop μ-loop
-element-copy-out-put-implication-3 c = search needs
-
-put-implication-requires : tie.Need-put-implication-requires Inv-loop μ-loop
-put-implication-requires c κs = search needs
-
-add-i : tie.Need-add-i Inv-loop μ-loop
-add-i c = search needs
-
-loop-less : tie.Need-loop-less Inv-loop μ-loop
-loop-less c = search needs
-
 loop-again : tie.Need-loop-again Inv-loop μ-loop
 loop-again c =
     let row-put = c .before .before in
@@ -74,14 +50,14 @@ put-implications-spec =
     Inv-loop
     μ-loop
     loop-holds
-    mul-put-implication
-    add-put-implication
-    element-copy-out-put-implication
-    element-copy-out-put-implication-2
-    element-copy-out-put-implication-3
-    put-implication-requires
-    add-i
-    loop-less
+    (λ c. search needs)
+    (λ c. search needs)
+    (λ c. search needs)
+    (λ c. search needs)
+    (λ c. search needs)
+    (λ c κs. search needs)
+    (λ c. search needs)
+    (λ c. search needs)
     loop-again
     same-length
     returns)

@@ -23,27 +23,6 @@ abbrev μ-loop : tie.MeasureT-loop
 loop-holds : tie.Need-loop-holds Inv-loop μ-loop
 loop-holds c = (omega arith, refl, rows-none stepRow stepBytes length-step _ _ _)
 
-mul-put-step : tie.Need-mul-put-step Inv-loop μ-loop
-mul-put-step c = search needs
-
-add-put-step : tie.Need-add-put-step Inv-loop μ-loop
-add-put-step c = search needs
-
-element-copy-out-put-step : tie.Need-element-copy-out-put-step Inv-loop μ-loop
-element-copy-out-put-step c = search needs
-
-row-requires : tie.Need-row-requires Inv-loop μ-loop
-row-requires c κs = search needs
-
-put-step-requires : tie.Need-put-step-requires Inv-loop μ-loop
-put-step-requires c κs = search needs
-
-add-i : tie.Need-add-i Inv-loop μ-loop
-add-i c = search needs
-
-loop-less : tie.Need-loop-less Inv-loop μ-loop
-loop-less c = search needs
-
 loop-again : tie.Need-loop-again Inv-loop μ-loop
 loop-again c =
     let row-put = c .before .before in
@@ -72,13 +51,13 @@ put-steps-spec =
     Inv-loop
     μ-loop
     loop-holds
-    mul-put-step
-    add-put-step
-    element-copy-out-put-step
-    row-requires
-    put-step-requires
-    add-i
-    loop-less
+    (λ c. search needs)
+    (λ c. search needs)
+    (λ c. search needs)
+    (λ c κs. search needs)
+    (λ c κs. search needs)
+    (λ c. search needs)
+    (λ c. search needs)
     loop-again
     same-length
     returns)

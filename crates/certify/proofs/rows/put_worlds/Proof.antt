@@ -22,24 +22,6 @@ abbrev μ-loop : tie.MeasureT-loop
 loop-holds : tie.Need-loop-holds Inv-loop μ-loop
 loop-holds c = (omega arith, refl, rows-none worldRow setBytes length-world _ _ _)
 
-mul-store : tie.Need-mul-store Inv-loop μ-loop
-mul-store c = search needs
-
-add-store : tie.Need-add-store Inv-loop μ-loop
-add-store c = search needs
-
-row-requires : tie.Need-row-requires Inv-loop μ-loop
-row-requires c κs = search needs
-
-store-requires : tie.Need-store-requires Inv-loop μ-loop
-store-requires c κs = search needs
-
-add-i : tie.Need-add-i Inv-loop μ-loop
-add-i c = search needs
-
-loop-less : tie.Need-loop-less Inv-loop μ-loop
-loop-less c = search needs
-
 loop-again : tie.Need-loop-again Inv-loop μ-loop
 unfolding worldRow
 loop-again c =
@@ -69,12 +51,12 @@ put-worlds-spec =
     Inv-loop
     μ-loop
     loop-holds
-    mul-store
-    add-store
-    row-requires
-    store-requires
-    add-i
-    loop-less
+    (λ c. search needs)
+    (λ c. search needs)
+    (λ c κs. search needs)
+    (λ c κs. search needs)
+    (λ c. search needs)
+    (λ c. search needs)
     loop-again
     same-length
     returns)

@@ -10,28 +10,13 @@ use Rattle.certify.proofs.sheet.put_bodies.Tie as tie
 counts : (c : tie.Start) → Counted (c .args .s) (c .args .k)
 counts c = counted _ _ _ (c .pre .counts-are)
 
-put-byte-requires : tie.Need-put-byte-requires
-put-byte-requires c κs = search needs
-
 put-flats-requires : tie.Need-put-flats-requires
 put-flats-requires c κs = let given = c .before .before .before .before .before .before in omega (arith, given .pre .room, counts given .flats-are)
-
-implications-at-requires : tie.Need-implications-at-requires
-implications-at-requires c κs = search needs
 
 put-implications-requires : tie.Need-put-implications-requires
 put-implications-requires c κs =
     let given = c .before .before .before .before .before .before .before .before .before .before .before in
     (omega (arith, given .pre .room, counts given .flats-are, counts given .implications-are), usable (given .args .s) (given .pre .in-range) .count)
-
-goal-at-requires : tie.Need-goal-at-requires
-goal-at-requires c κs = search needs
-
-put-byte-requires-2 : tie.Need-put-byte-requires-2
-put-byte-requires-2 c κs = search needs
-
-claim-at-requires : tie.Need-claim-at-requires
-claim-at-requires c κs = search needs
 
 -- `flats-put` has a name so that `omega` finds the lengths that lie behind it.
 put-claim-requires : tie.Need-put-claim-requires
@@ -39,9 +24,6 @@ put-claim-requires c κs =
     let flats-put = c .before .before .before .before .before .before .before .before .before .before .before .before .before .before in
     let given = flats-put .before .before .before .before .before .before .before in
     (given .pre .in-range, omega (arith, given .pre .room, counts given .claim-is))
-
-same-length : tie.Need-same-length
-same-length c = search needs
 
 returns : tie.Need-returns
 returns c =
@@ -59,13 +41,13 @@ pub put-bodies-spec : {M : Type 1} → statement M
 put-bodies-spec =
     tie.close
     (tie.spec
-    put-byte-requires
+    (λ c κs. search needs)
     put-flats-requires
-    implications-at-requires
+    (λ c κs. search needs)
     put-implications-requires
-    goal-at-requires
-    put-byte-requires-2
-    claim-at-requires
+    (λ c κs. search needs)
+    (λ c κs. search needs)
+    (λ c κs. search needs)
     put-claim-requires
-    same-length
+    (λ c. search needs)
     returns)

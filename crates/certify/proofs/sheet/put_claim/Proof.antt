@@ -29,15 +29,9 @@ put-steps-requires c κs =
     let given = c .before .before .before in
     (room given _ (c .before .if1 .left), steps-count (given .args .s) (given .pre .0) .0)
 
-same-length : tie.Need-same-length
-same-length c = search needs
-
 returns : tie.Need-returns
 unfolding claimRows
 returns c = let put = c .before .before in told (put .before .before .before .before) _ (put .before .before .if1 .taken) _ (put .put-worlds .ensures)
-
-same-length-2 : tie.Need-same-length-2
-same-length-2 c = search needs
 
 returns-2 : tie.Need-returns-2
 unfolding claimRows
@@ -46,4 +40,4 @@ returns-2 c = let put = c .before .before in told (put .before .before .before .
 pub put-claim-spec : {M : Type 1} → statement M
 put-claim-spec =
     tie.close
-    (tie.spec put-worlds-requires put-steps-requires same-length returns same-length-2 returns-2)
+    (tie.spec put-worlds-requires put-steps-requires (λ c. search needs) returns (λ c. search needs) returns-2)

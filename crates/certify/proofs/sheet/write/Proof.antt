@@ -5,19 +5,10 @@ use Rattle.certify.proofs.Whole.{counted, too-long, whole-written}
 use Rattle.certify.proofs.sheet.write.Statement.{statement}
 use Rattle.certify.proofs.sheet.write.Tie as tie
 
-contents-of-requires : tie.Need-contents-of-requires
-contents-of-requires c κs = search needs
-
-length-requires : tie.Need-length-requires
-length-requires c κs = search needs
-
 returns : tie.Need-returns
 returns c =
     let given = c .before .before .before .before .args in
     too-long (given .s) (given .goal) (given .refuting) _ (c .before .before .contents-of .ensures) _ _ (c .before .length .ensures) (c .if1 .taken)
-
-put-contents-requires : tie.Need-put-contents-requires
-put-contents-requires c κs = search needs
 
 put-bodies-requires : tie.Need-put-bodies-requires
 put-bodies-requires c κs =
@@ -28,9 +19,6 @@ put-bodies-requires c κs =
       counts-are = counted _ _ _ (made .contents-of .ensures) .own;
       room = omega (arith, fits .if1 .left, fits .before .length .ensures);
     }
-
-same-length : tie.Need-same-length
-same-length c = search needs
 
 returns-2 : tie.Need-returns-2
 returns-2 c =
@@ -46,10 +34,10 @@ pub write-spec : {M : Type 1} → statement M
 write-spec =
     tie.close
     (tie.spec
-    contents-of-requires
-    length-requires
+    (λ c κs. search needs)
+    (λ c κs. search needs)
     returns
-    put-contents-requires
+    (λ c κs. search needs)
     put-bodies-requires
-    same-length
+    (λ c. search needs)
     returns-2)

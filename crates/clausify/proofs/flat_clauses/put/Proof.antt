@@ -8,22 +8,10 @@ use Rattle.clausify.proofs.flat_clauses.put.Tie as tie
 returns : tie.Need-returns
 returns c = rw (c .if1 .taken) (put-none _ _ _)
 
-set-row-requires : tie.Need-set-row-requires
-set-row-requires c κs = search needs
-
-set-row-requires-2 : tie.Need-set-row-requires-2
-set-row-requires-2 c κs = search needs
-
 add-result : tie.Need-add-result
 add-result c =
     let asked = c .before .before .before .before .before .before .before .before .before .before .before .pre in
     omega (arith, asked .few)
-
-same-length : tie.Need-same-length
-same-length c = search needs
-
-same-length-2 : tie.Need-same-length-2
-same-length-2 c = search needs
 
 returns-2 : tie.Need-returns-2
 returns-2 c =
@@ -37,9 +25,9 @@ put-spec =
     tie.close
     (tie.spec
     returns
-    set-row-requires
-    set-row-requires-2
+    (λ c κs. search needs)
+    (λ c κs. search needs)
     add-result
-    same-length
-    same-length-2
+    (λ c. search needs)
+    (λ c. search needs)
     returns-2)

@@ -6,26 +6,11 @@ use borrow.Author.Needs.{needs}
 use Rattle.clausify.proofs.flat_clauses.put_and.Statement.{statement}
 use Rattle.clausify.proofs.flat_clauses.put_and.Tie as tie
 
-single-requires : tie.Need-single-requires
-single-requires c κs = search needs
-
-single-requires-2 : tie.Need-single-requires-2
-single-requires-2 c κs = search needs
-
-single-requires-3 : tie.Need-single-requires-3
-single-requires-3 c κs = search needs
-
-put-requires : tie.Need-put-requires
-put-requires c κs = search needs
-
 put-requires-2 : tie.Need-put-requires-2
 put-requires-2 c κs =
     let first = c .before .before .before .before .before .before in
     let asked = first .before .before .before .before .before .before .before .before .pre in
     fits-second _ _ _ _ _ _ asked false _ _ _ _ (first .put .ensures)
-
-join-requires : tie.Need-join-requires
-join-requires c κs = search needs
 
 put-requires-3 : tie.Need-put-requires-3
 put-requires-3 c κs =
@@ -33,12 +18,6 @@ put-requires-3 c κs =
     let first = second .before .before .before .before .before .before .before in
     let asked = first .before .before .before .before .before .before .before .before .pre in
     fits-third _ _ _ _ _ _ asked false false _ _ _ _ _ _ _ _ (first .put .ensures) (second .put2 .ensures)
-
-same-length : tie.Need-same-length
-same-length c = search needs
-
-same-length-2 : tie.Need-same-length-2
-same-length-2 c = search needs
 
 returns : tie.Need-returns
 returns c =
@@ -54,13 +33,13 @@ pub put-and-spec : {M : Type 1} → statement M
 put-and-spec =
     tie.close
     (tie.spec
-    single-requires
-    single-requires-2
-    single-requires-3
-    put-requires
+    (λ c κs. search needs)
+    (λ c κs. search needs)
+    (λ c κs. search needs)
+    (λ c κs. search needs)
     put-requires-2
-    join-requires
+    (λ c κs. search needs)
     put-requires-3
-    same-length
-    same-length-2
+    (λ c. search needs)
+    (λ c. search needs)
     returns)

@@ -12,26 +12,11 @@ use Rattle.clausify.proofs.flat_clauses.put_entry.Tie as tie
 atoms-size : (c : tie.Start) → length (c .args .t6 .atoms) ≡ room
 atoms-size c = search needs
 
-enum-told : tie.Need-enum-told
-enum-told c = search needs
-
-enum-told-2 : tie.Need-enum-told-2
-enum-told-2 c = search needs
-
-enum-known-part : tie.Need-enum-known-part
-enum-known-part c = search needs
-
-cast-put-part : tie.Need-cast-put-part
-cast-put-part c = search needs
-
 element-copy-out-put-part : tie.Need-element-copy-out-put-part
 element-copy-out-put-part c =
     let matched = c .before .before .before in
     let start = matched .before .before .before .before in
     omega (arith, compound-parts _ _ _ _ _ _ (matched .part .given .1) (start .pre .parts) .1 .0, atoms-size start)
-
-cast-put-part-2 : tie.Need-cast-put-part-2
-cast-put-part-2 c = search needs
 
 element-copy-out-put-part-2 : tie.Need-element-copy-out-put-part-2
 element-copy-out-put-part-2 c =
@@ -52,12 +37,6 @@ returns-2 : tie.Need-returns-2
 unfolding flatsBy
 returns-2 c = put-calls _ _ _ _ _ _ _ _ (falsum-calls _ _ _ (c .enum-told2 .given .1)) (put-none _ _ _)
 
-same-length : tie.Need-same-length
-same-length c = search needs
-
-same-length-2 : tie.Need-same-length-2
-same-length-2 c = search needs
-
 returns-3 : tie.Need-returns-3
 returns-3 c =
     let called = c .before .before .before .before in
@@ -69,16 +48,16 @@ pub put-entry-spec : {M : Type 1} → statement M
 put-entry-spec =
     tie.close
     (tie.spec
-    enum-told
-    enum-told-2
-    enum-known-part
-    cast-put-part
+    (λ c. search needs)
+    (λ c. search needs)
+    (λ c. search needs)
+    (λ c. search needs)
     element-copy-out-put-part
-    cast-put-part-2
+    (λ c. search needs)
     element-copy-out-put-part-2
     put-part-requires
     returns
     returns-2
-    same-length
-    same-length-2
+    (λ c. search needs)
+    (λ c. search needs)
     returns-3)

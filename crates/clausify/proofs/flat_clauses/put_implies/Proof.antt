@@ -9,21 +9,6 @@ use borrow.Author.Needs.{needs}
 use Rattle.clausify.proofs.flat_clauses.put_implies.Statement.{statement}
 use Rattle.clausify.proofs.flat_clauses.put_implies.Tie as tie
 
-single-requires : tie.Need-single-requires
-single-requires c κs = search needs
-
-single-requires-2 : tie.Need-single-requires-2
-single-requires-2 c κs = search needs
-
-single-requires-3 : tie.Need-single-requires-3
-single-requires-3 c κs = search needs
-
-put-requires : tie.Need-put-requires
-put-requires c κs = search needs
-
-join-requires : tie.Need-join-requires
-join-requires c κs = search needs
-
 put-requires-2 : tie.Need-put-requires-2
 put-requires-2 c κs =
     let first = c .before .before .before .before .before .before .before in
@@ -37,12 +22,6 @@ put-requires-3 c κs =
     let start = first .before .before .before .before .before .before .before .before in
     fits-third _ _ _ _ _ _ (start .pre) (not (eqb (start .args .y) bot)) (eqb (start .args .y) bot)
     _ _ _ _ _ _ _ _ (first .put .ensures) (second .put2 .ensures)
-
-same-length : tie.Need-same-length
-same-length c = search needs
-
-same-length-2 : tie.Need-same-length-2
-same-length-2 c = search needs
 
 returns : tie.Need-returns
 returns c =
@@ -58,13 +37,13 @@ pub put-implies-spec : {M : Type 1} → statement M
 put-implies-spec =
     tie.close
     (tie.spec
-    single-requires
-    single-requires-2
-    single-requires-3
-    put-requires
-    join-requires
+    (λ c κs. search needs)
+    (λ c κs. search needs)
+    (λ c κs. search needs)
+    (λ c κs. search needs)
+    (λ c κs. search needs)
     put-requires-2
     put-requires-3
-    same-length
-    same-length-2
+    (λ c. search needs)
+    (λ c. search needs)
     returns)

@@ -7,21 +7,6 @@ use borrow.Author.Needs.{needs}
 use Rattle.clausify.proofs.flat_clauses.put_or.Statement.{statement}
 use Rattle.clausify.proofs.flat_clauses.put_or.Tie as tie
 
-single-requires : tie.Need-single-requires
-single-requires c κs = search needs
-
-single-requires-2 : tie.Need-single-requires-2
-single-requires-2 c κs = search needs
-
-single-requires-3 : tie.Need-single-requires-3
-single-requires-3 c κs = search needs
-
-join-requires : tie.Need-join-requires
-join-requires c κs = search needs
-
-put-requires : tie.Need-put-requires
-put-requires c κs = search needs
-
 put-requires-2 : tie.Need-put-requires-2
 put-requires-2 c κs =
     let first = c .before .before .before .before .before .before in
@@ -34,12 +19,6 @@ put-requires-3 c κs =
     let first = second .before .before .before .before .before .before .before in
     let start = first .before .before .before .before .before .before .before .before .before in
     fits-third _ _ _ _ _ _ (start .pre) false (eqb (start .args .y) bot) _ _ _ _ _ _ _ _ (first .put .ensures) (second .put2 .ensures)
-
-same-length : tie.Need-same-length
-same-length c = search needs
-
-same-length-2 : tie.Need-same-length-2
-same-length-2 c = search needs
 
 returns : tie.Need-returns
 returns c =
@@ -55,13 +34,13 @@ pub put-or-spec : {M : Type 1} → statement M
 put-or-spec =
     tie.close
     (tie.spec
-    single-requires
-    single-requires-2
-    single-requires-3
-    join-requires
-    put-requires
+    (λ c κs. search needs)
+    (λ c κs. search needs)
+    (λ c κs. search needs)
+    (λ c κs. search needs)
+    (λ c κs. search needs)
     put-requires-2
     put-requires-3
-    same-length
-    same-length-2
+    (λ c. search needs)
+    (λ c. search needs)
     returns)

@@ -20,30 +20,12 @@ atoms-size c = search needs
 loop-holds : tie.Need-loop-holds Inv-loop μ-loop
 loop-holds c = flats-none _ _ _
 
-cast-at : tie.Need-cast-at Inv-loop μ-loop
-cast-at c = search needs
-
-mul-node : tie.Need-mul-node Inv-loop μ-loop
-mul-node c = search needs
-
-element-copy-out-node : tie.Need-element-copy-out-node Inv-loop μ-loop
-element-copy-out-node c = search needs
-
-element-copy-out-put-entry : tie.Need-element-copy-out-put-entry Inv-loop μ-loop
-element-copy-out-put-entry c = search needs
-
 put-entry-requires : tie.Need-put-entry-requires Inv-loop μ-loop
 put-entry-requires c κs =
     let in-loop = c .before .before .before .before in
     let at-loop = in-loop .before in
     let start = at-loop .before .before .before in
     flats-room _ _ (start .pre .0) (atoms-size start) _ _ (in-loop .loop-test .taken) _ _ _ _ _ (at-loop .loop .inv) (start .pre .1) (start .pre .2)
-
-add-i : tie.Need-add-i Inv-loop μ-loop
-add-i c = search needs
-
-loop-less : tie.Need-loop-less Inv-loop μ-loop
-loop-less c = search needs
 
 loop-again : tie.Need-loop-again Inv-loop μ-loop
 loop-again c =
@@ -69,13 +51,13 @@ write-spec =
     Inv-loop
     μ-loop
     loop-holds
-    cast-at
-    mul-node
-    element-copy-out-node
-    element-copy-out-put-entry
+    (λ c. search needs)
+    (λ c. search needs)
+    (λ c. search needs)
+    (λ c. search needs)
     put-entry-requires
-    add-i
-    loop-less
+    (λ c. search needs)
+    (λ c. search needs)
     loop-again
     same-length
     same-length-2

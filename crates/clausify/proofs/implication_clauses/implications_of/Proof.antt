@@ -20,18 +20,6 @@ atoms-size c = search needs
 loop-holds : tie.Need-loop-holds Inv-loop μ-loop
 loop-holds c = implications-none _ _ refl
 
-cast-at : tie.Need-cast-at Inv-loop μ-loop
-cast-at c = search needs
-
-mul-node : tie.Need-mul-node Inv-loop μ-loop
-mul-node c = search needs
-
-element-copy-out-node : tie.Need-element-copy-out-node Inv-loop μ-loop
-element-copy-out-node c = search needs
-
-element-copy-out-with-entry : tie.Need-element-copy-out-with-entry Inv-loop μ-loop
-element-copy-out-with-entry c = search needs
-
 with-entry-requires : tie.Need-with-entry-requires Inv-loop μ-loop
 with-entry-requires c κs =
     let in-loop = c .before .before in
@@ -40,12 +28,6 @@ with-entry-requires c κs =
       implications-room _ _ (start .pre) _ (in-loop .loop-test .taken) _ (at-loop .loop .inv),
       parts-in _ _ (start .pre) (atoms-size start) _ _ (in-loop .loop-test .taken),
     )
-
-add-i : tie.Need-add-i Inv-loop μ-loop
-add-i c = search needs
-
-loop-less : tie.Need-loop-less Inv-loop μ-loop
-loop-less c = search needs
 
 loop-again : tie.Need-loop-again Inv-loop μ-loop
 loop-again c =
@@ -64,12 +46,12 @@ implications-of-spec =
     Inv-loop
     μ-loop
     loop-holds
-    cast-at
-    mul-node
-    element-copy-out-node
-    element-copy-out-with-entry
+    (λ c. search needs)
+    (λ c. search needs)
+    (λ c. search needs)
+    (λ c. search needs)
     with-entry-requires
-    add-i
-    loop-less
+    (λ c. search needs)
+    (λ c. search needs)
     loop-again
     returns)

@@ -11,35 +11,17 @@ use Rattle.clausify.proofs.implication_clauses.with_entry.Tie as tie
 atoms-size : (c : tie.Start) → length (c .args .t4 .atoms) ≡ room
 atoms-size c = search needs
 
-enum-told : tie.Need-enum-told
-enum-told c = search needs
-
-enum-told-2 : tie.Need-enum-told-2
-enum-told-2 c = search needs
-
-enum-known-part : tie.Need-enum-known-part
-enum-known-part c = search needs
-
-cast-with-part : tie.Need-cast-with-part
-cast-with-part c = search needs
-
 element-copy-out-with-part : tie.Need-element-copy-out-with-part
 element-copy-out-with-part c =
     let matched = c .before in
     let start = matched .before .before in
     omega (arith, compound-parts _ _ _ _ _ _ (matched .part .given .1) (start .pre .1) .1 .0, atoms-size start)
 
-cast-with-part-2 : tie.Need-cast-with-part-2
-cast-with-part-2 c = search needs
-
 element-copy-out-with-part-2 : tie.Need-element-copy-out-with-part-2
 element-copy-out-with-part-2 c =
     let matched = c .before .before in
     let start = matched .before .before in
     omega (arith, compound-parts _ _ _ _ _ _ (matched .part .given .1) (start .pre .1) .2 .0, atoms-size start)
-
-with-part-requires : tie.Need-with-part-requires
-with-part-requires c κs = search needs
 
 returns : tie.Need-returns
 returns c = appended-calls _ _ _ _ (letter-calls _ _ _ _ (c .enum-told .given .1)) (appended-none _)
@@ -56,14 +38,14 @@ pub with-entry-spec : {M : Type 1} → statement M
 with-entry-spec =
     tie.close
     (tie.spec
-    enum-told
-    enum-told-2
-    enum-known-part
-    cast-with-part
+    (λ c. search needs)
+    (λ c. search needs)
+    (λ c. search needs)
+    (λ c. search needs)
     element-copy-out-with-part
-    cast-with-part-2
+    (λ c. search needs)
     element-copy-out-with-part-2
-    with-part-requires
+    (λ c κs. search needs)
     returns
     returns-2
     returns-3)

@@ -9,29 +9,8 @@ use native.Mathlib.Omega.{arith}
 use Rattle.clausify.proofs.implication_clauses.with_part.Statement.{statement}
 use Rattle.clausify.proofs.implication_clauses.with_part.Tie as tie
 
-enum-told : tie.Need-enum-told
-enum-told c = search needs
-
-enum-told-2 : tie.Need-enum-told-2
-enum-told-2 c = search needs
-
-enum-told-3 : tie.Need-enum-told-3
-enum-told-3 c = search needs
-
 returns : tie.Need-returns
 returns c = from-bot-appended _ _ _ _ _ (c .before .enum-told3 .given .1) (c .if1 .taken)
-
-element-write-next : tie.Need-element-write-next
-element-write-next c = search needs
-
-element-write-next-2 : tie.Need-element-write-next-2
-element-write-next-2 c = search needs
-
-element-write-next-3 : tie.Need-element-write-next-3
-element-write-next-3 c = search needs
-
-add-next : tie.Need-add-next
-add-next c = search needs
 
 returns-2 : tie.Need-returns-2
 returns-2 c = and-appended _ _ _ _ _ (c .enum-told .given .1)
@@ -51,14 +30,14 @@ pub with-part-spec : {M : Type 1} → statement M
 with-part-spec =
     tie.close
     (tie.spec
-    enum-told
-    enum-told-2
-    enum-told-3
+    (λ c. search needs)
+    (λ c. search needs)
+    (λ c. search needs)
     returns
-    element-write-next
-    element-write-next-2
-    element-write-next-3
-    add-next
+    (λ c. search needs)
+    (λ c. search needs)
+    (λ c. search needs)
+    (λ c. search needs)
     returns-2
     returns-3
     returns-4)

@@ -15,26 +15,8 @@ abbrev μ-loop : tie.MeasureT-loop
 loop-holds : tie.Need-loop-holds Inv-loop μ-loop
 loop-holds c = counted-none _ (c .pre)
 
-cast-node : tie.Need-cast-node Inv-loop μ-loop
-cast-node c = search needs
-
-mul-node : tie.Need-mul-node Inv-loop μ-loop
-mul-node c = search needs
-
-element-copy-out-node : tie.Need-element-copy-out-node Inv-loop μ-loop
-element-copy-out-node c = search needs
-
-letters-in-requires : tie.Need-letters-in-requires Inv-loop μ-loop
-letters-in-requires c κs = search needs
-
 add-letters : tie.Need-add-letters Inv-loop μ-loop
 add-letters c = omega (arith, counted-byte _ (c .before .before .before .before .pre) _ _ (c .before .before .before .loop .inv) _ _ (c .letters-in .ensures))
-
-add-i : tie.Need-add-i Inv-loop μ-loop
-add-i c = search needs
-
-loop-less : tie.Need-loop-less Inv-loop μ-loop
-loop-less c = search needs
 
 loop-again : tie.Need-loop-again Inv-loop μ-loop
 loop-again c = counted-more _ (c .before .before .before .before .pre) _ _ (c .before .before .before .loop .inv) _ _ (c .before .before .loop-test .taken) (c .letters-in .ensures)
@@ -49,12 +31,12 @@ letter-count-spec =
     Inv-loop
     μ-loop
     loop-holds
-    cast-node
-    mul-node
-    element-copy-out-node
-    letters-in-requires
+    (λ c. search needs)
+    (λ c. search needs)
+    (λ c. search needs)
+    (λ c κs. search needs)
     add-letters
-    add-i
-    loop-less
+    (λ c. search needs)
+    (λ c. search needs)
     loop-again
     returns)

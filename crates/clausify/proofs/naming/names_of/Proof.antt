@@ -17,26 +17,8 @@ letter-count-requires c κs = c .pre
 loop-holds : tie.Need-loop-holds Inv-loop μ-loop
 loop-holds c = given-none _ (c .before .pre) _ _ (search needs) (c .letter-count .ensures)
 
-cast-at : tie.Need-cast-at Inv-loop μ-loop
-cast-at c = search needs
-
-mul-node : tie.Need-mul-node Inv-loop μ-loop
-mul-node c = search needs
-
-element-copy-out-node : tie.Need-element-copy-out-node Inv-loop μ-loop
-element-copy-out-node c = search needs
-
 pass-requires : tie.Need-pass-requires Inv-loop μ-loop
 pass-requires c κs = given-small _ (c .before .before .before .before .pre) _ _ _ (c .before .before .loop .inv)
-
-array-write-atoms : tie.Need-array-write-atoms Inv-loop μ-loop
-array-write-atoms c = search needs
-
-add-i : tie.Need-add-i Inv-loop μ-loop
-add-i c = search needs
-
-loop-less : tie.Need-loop-less Inv-loop μ-loop
-loop-less c = search needs
 
 loop-again : tie.Need-loop-again Inv-loop μ-loop
 loop-again c = given-more _ (c .before .before .before .before .before .pre) _ _ _ (c .before .before .before .loop .inv) _ _ (c .before .before .loop-test .taken) (c .pass .ensures)
@@ -52,12 +34,12 @@ names-of-spec =
     μ-loop
     letter-count-requires
     loop-holds
-    cast-at
-    mul-node
-    element-copy-out-node
+    (λ c. search needs)
+    (λ c. search needs)
+    (λ c. search needs)
     pass-requires
-    array-write-atoms
-    add-i
-    loop-less
+    (λ c. search needs)
+    (λ c. search needs)
+    (λ c. search needs)
     loop-again
     returns)

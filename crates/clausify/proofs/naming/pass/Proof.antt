@@ -4,21 +4,6 @@ use borrow.Author.Needs.{needs}
 use Rattle.clausify.proofs.naming.pass.Statement.{statement}
 use Rattle.clausify.proofs.naming.pass.Tie as tie
 
-enum-told : tie.Need-enum-told
-enum-told c = search needs
-
-add-t4 : tie.Need-add-t4
-add-t4 c = search needs
-
-enum-told-2 : tie.Need-enum-told-2
-enum-told-2 c = search needs
-
-enum-told-3 : tie.Need-enum-told-3
-enum-told-3 c = search needs
-
-add-t5 : tie.Need-add-t5
-add-t5 c = search needs
-
 returns : tie.Need-returns
 returns c = passed-letter _ _ _ (c .before .enum-told .given .1)
 
@@ -31,4 +16,4 @@ returns-3 c = passed-compound _ _ _ _ _ (c .before .enum-told3 .given .1)
 pub pass-spec : {M : Type 1} → statement M
 pass-spec =
     tie.close
-    (tie.spec enum-told add-t4 enum-told-2 enum-told-3 add-t5 returns returns-2 returns-3)
+    (tie.spec (λ c. search needs) (λ c. search needs) (λ c. search needs) (λ c. search needs) (λ c. search needs) returns returns-2 returns-3)

@@ -6,12 +6,6 @@ use borrow.Author.Needs.{needs}
 use Rattle.prover.proofs.additions.with_closing.Statement.{statement}
 use Rattle.prover.proofs.additions.with_closing.Tie as tie
 
-single-requires : tie.Need-single-requires
-single-requires c κs = search needs
-
-single-requires-2 : tie.Need-single-requires-2
-single-requires-2 c κs = search needs
-
 with-flat-row-requires : tie.Need-with-flat-row-requires
 with-flat-row-requires c κs = c .before .before .before .pre .row (c .before .before .if1 .left)
 
@@ -27,4 +21,4 @@ returns-2 c = λ a.
 
 pub with-closing-spec : {M : Type 1} → statement M
 with-closing-spec =
-    tie.close (tie.spec single-requires single-requires-2 with-flat-row-requires returns returns-2)
+    tie.close (tie.spec (λ c κs. search needs) (λ c κs. search needs) with-flat-row-requires returns returns-2)

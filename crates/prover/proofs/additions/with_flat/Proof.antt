@@ -12,9 +12,6 @@ use Rattle.prover.proofs.additions.with_flat.Tie as tie
 with-flat-row-requires : tie.Need-with-flat-row-requires
 with-flat-row-requires c κs = flat-room _ _ (c .pre)
 
-with-clauses-requires : tie.Need-with-clauses-requires
-with-clauses-requires c κs = search needs
-
 returns : tie.Need-returns
 unfolding taken
 returns c =
@@ -26,4 +23,4 @@ returns c =
     )
 
 pub with-flat-spec : {M : Type 1} → statement M
-with-flat-spec = tie.close (tie.spec with-flat-row-requires with-clauses-requires returns)
+with-flat-spec = tie.close (tie.spec with-flat-row-requires (λ c κs. search needs) returns)

@@ -9,18 +9,6 @@ use native.Mathlib.Omega.{arith}
 use Rattle.prover.proofs.additions.with_flat_row.Statement.{statement}
 use Rattle.prover.proofs.additions.with_flat_row.Tie as tie
 
-slice-aggregate-set-row : tie.Need-slice-aggregate-set-row
-slice-aggregate-set-row c = search needs
-
-set-row-requires : tie.Need-set-row-requires
-set-row-requires c κs = search needs
-
-slice-aggregate-set-row-2 : tie.Need-slice-aggregate-set-row-2
-slice-aggregate-set-row-2 c = search needs
-
-set-row-requires-2 : tie.Need-set-row-requires-2
-set-row-requires-2 c κs = search needs
-
 add-t12 : tie.Need-add-t12
 add-t12 c = omega arith
 
@@ -37,9 +25,9 @@ pub with-flat-row-spec : {M : Type 1} → statement M
 with-flat-row-spec =
     tie.close
     (tie.spec
-    slice-aggregate-set-row
-    set-row-requires
-    slice-aggregate-set-row-2
-    set-row-requires-2
+    (λ c. search needs)
+    (λ c κs. search needs)
+    (λ c. search needs)
+    (λ c κs. search needs)
     add-t12
     returns)

@@ -15,9 +15,6 @@ with-closing-requires c κs = closing-fits _ _ (c .pre)
 with-implication-row-requires : tie.Need-with-implication-row-requires
 with-implication-row-requires c κs = implication-room _ _ (c .before .pre)
 
-with-clauses-requires : tie.Need-with-clauses-requires
-with-clauses-requires c κs = search needs
-
 returns : tie.Need-returns
 unfolding taken
 returns c =
@@ -31,4 +28,4 @@ returns c =
 pub with-implication-spec : {M : Type 1} → statement M
 with-implication-spec =
     tie.close
-    (tie.spec with-closing-requires with-implication-row-requires with-clauses-requires returns)
+    (tie.spec with-closing-requires with-implication-row-requires (λ c κs. search needs) returns)

@@ -8,15 +8,6 @@ use native.Mathlib.Omega.{arith}
 use Rattle.prover.proofs.additions.with_implication_row.Statement.{statement}
 use Rattle.prover.proofs.additions.with_implication_row.Tie as tie
 
-element-write-next : tie.Need-element-write-next
-element-write-next c = search needs
-
-element-write-next-2 : tie.Need-element-write-next-2
-element-write-next-2 c = search needs
-
-element-write-next-3 : tie.Need-element-write-next-3
-element-write-next-3 c = search needs
-
 add-next : tie.Need-add-next
 add-next c = omega arith
 
@@ -30,4 +21,4 @@ returns c =
 pub with-implication-row-spec : {M : Type 1} → statement M
 with-implication-row-spec =
     tie.close
-    (tie.spec element-write-next element-write-next-2 element-write-next-3 add-next returns)
+    (tie.spec (λ c. search needs) (λ c. search needs) (λ c. search needs) add-next returns)

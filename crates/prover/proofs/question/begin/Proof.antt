@@ -8,29 +8,8 @@ use borrow.Author.Needs.{needs}
 use Rattle.prover.proofs.question.begin.Statement.{statement}
 use Rattle.prover.proofs.question.begin.Tie as tie
 
-add-ask : tie.Need-add-ask
-add-ask c = search needs
-
-ask-requires : tie.Need-ask-requires
-ask-requires c κs = search needs
-
-enum-told : tie.Need-enum-told
-enum-told c = search needs
-
-enum-known-m : tie.Need-enum-known-m
-enum-known-m c = search needs
-
-set-row-requires : tie.Need-set-row-requires
-set-row-requires c κs = search needs
-
-add-t15 : tie.Need-add-t15
-add-t15 c = search needs
-
 returns : tie.Need-returns
 returns c = (ap answerOf (sym (c .enum-told .given .1)) ∙ c .before .before .ask .ensures ∙ ask-empty _ _ _ _ num-empty, refl)
-
-same-length : tie.Need-same-length
-same-length c = search needs
 
 returns-2 : tie.Need-returns-2
 returns-2 c =
@@ -41,12 +20,12 @@ pub begin-spec : {M : Type 1} → statement M
 begin-spec =
     tie.close
     (tie.spec
-    add-ask
-    ask-requires
-    enum-told
-    enum-known-m
-    set-row-requires
-    add-t15
+    (λ c. search needs)
+    (λ c κs. search needs)
+    (λ c. search needs)
+    (λ c. search needs)
+    (λ c κs. search needs)
+    (λ c. search needs)
     returns
-    same-length
+    (λ c. search needs)
     returns-2)

@@ -38,9 +38,6 @@ turn-requires c κs =
     let l = c .before .before .before .before .before in
     (l .before .before .before .before .before .before .pre .0, l .loop .inv .0 .working, few-questions (l .loop .inv .0))
 
-enum-told : tie.Need-enum-told Inv-loop μ-loop
-enum-told c = search needs
-
 same-length : tie.Need-same-length Inv-loop μ-loop
 same-length c = omega (arith, at-loop (c .before .before) .loop .inv .1)
 
@@ -58,9 +55,6 @@ same-length-5 c = omega (arith, at-loop (c .before .before) .loop .inv .5)
 
 returns : tie.Need-returns Inv-loop μ-loop
 returns c = let r = c .before .before in valid-end (at-loop r .loop .inv .0) _ _ (c .enum-told .given .1) (turned r .turn .ensures)
-
-enum-told-2 : tie.Need-enum-told-2 Inv-loop μ-loop
-enum-told-2 c = search needs
 
 same-length-6 : tie.Need-same-length-6 Inv-loop μ-loop
 same-length-6 c = omega (arith, at-loop (c .before .before) .loop .inv .1)
@@ -80,9 +74,6 @@ same-length-10 c = omega (arith, at-loop (c .before .before) .loop .inv .5)
 returns-2 : tie.Need-returns-2 Inv-loop μ-loop
 returns-2 c = let r = c .before .before in refuted-end (at-loop r .loop .inv .0) _ _ (c .enum-told2 .given .1) (turned r .turn .ensures)
 
-enum-known-k : tie.Need-enum-known-k Inv-loop μ-loop
-enum-known-k c = search needs
-
 same-length-11 : tie.Need-same-length-11 Inv-loop μ-loop
 same-length-11 c = omega (arith, at-loop (c .before .before .before) .loop .inv .1)
 
@@ -100,9 +91,6 @@ same-length-15 c = omega (arith, at-loop (c .before .before .before) .loop .inv 
 
 returns-3 : tie.Need-returns-3 Inv-loop μ-loop
 returns-3 c = let r = c .before .before .before in full-end (at-loop r .loop .inv .0) _ _ _ (c .before .k .given .1) (turned r .turn .ensures)
-
-enum-known-q : tie.Need-enum-known-q Inv-loop μ-loop
-enum-known-q c = search needs
 
 loop-less : tie.Need-loop-less Inv-loop μ-loop
 loop-less c = let r = c .before .before .before in closer (at-loop r .loop .inv .0) _ _ _ (c .before .q .given .1) (turned r .turn .ensures)
@@ -127,27 +115,27 @@ proceed-spec =
     μ-loop
     loop-holds
     turn-requires
-    enum-told
+    (λ c. search needs)
     same-length
     same-length-2
     same-length-3
     same-length-4
     same-length-5
     returns
-    enum-told-2
+    (λ c. search needs)
     same-length-6
     same-length-7
     same-length-8
     same-length-9
     same-length-10
     returns-2
-    enum-known-k
+    (λ c. search needs)
     same-length-11
     same-length-12
     same-length-13
     same-length-14
     same-length-15
     returns-3
-    enum-known-q
+    (λ c. search needs)
     loop-less
     loop-again)

@@ -33,18 +33,6 @@ set-given c =
     given-is (s .args .goal) (s .pre .0) (s .pre .1) (some-world pair) (pair .before .next-pair .ensures) (pair .if2 .left) _ _
     (c .before .single .ensures) _ (c .before .before .before .row .ensures) (c .join .ensures)
 
-begin-requires : tie.Need-begin-requires
-begin-requires c κs = search needs
-
-same-length : tie.Need-same-length
-same-length c = search needs
-
-same-length-2 : tie.Need-same-length-2
-same-length-2 c = search needs
-
-same-length-3 : tie.Need-same-length-3
-same-length-3 c = search needs
-
 returns : tie.Need-returns
 returns c =
     let begun = c .before .before in
@@ -57,61 +45,28 @@ next-pair-requires c κs =
     let s = c .before .before .before .before .before .before .before in
     (s .pre .1 .pair-number, s .pre .1 .pair-world, s .pre .0 .count, first-atoms (s .pre .0))
 
-same-length-4 : tie.Need-same-length-4
-same-length-4 c = search needs
-
 returns-2 : tie.Need-returns-2
 returns-2 c =
     let found = c .before in
     let s = found .before .before .before .before .before .before .before .before in
     refuted-right (s .args .goal) (s .pre .0) (s .pre .1) (found .before .before .if1 .left) (found .next-pair .ensures) (c .if2 .taken)
 
-row-requires : tie.Need-row-requires
-row-requires c κs = search needs
-
 element-copy-out-single : tie.Need-element-copy-out-single
 element-copy-out-single c = number-small (c .before .before)
 
-single-requires : tie.Need-single-requires
-single-requires c κs = search needs
-
-join-requires : tie.Need-join-requires
-join-requires c κs = search needs
-
-add-ask : tie.Need-add-ask
-add-ask c = search needs
-
 element-copy-out-ask : tie.Need-element-copy-out-ask
 element-copy-out-ask c = number-small (c .before .before .before .before .before .before .before .before)
-
-ask-requires : tie.Need-ask-requires
-ask-requires c κs = search needs
-
-enum-known-m : tie.Need-enum-known-m
-enum-known-m c = search needs
 
 grow-requires : tie.Need-grow-requires
 grow-requires c κs =
     let pair = c .before .before .before .before .before .before .before .before .before .before .before .before .before .before in
     start pair .pre .2
 
-enum-told : tie.Need-enum-told
-enum-told c = search needs
-
 learn-requires : tie.Need-learn-requires
 learn-requires c κs =
     let pair = c .before .before .before .before .before .before .before .before .before .before .before .before .before .before .before .before in
     let s = start pair in
     record { few = s .pre .0 .few; number = number-small pair; size = s .pre .1 .numbers-size; flats = s .pre .1 .few-flats; questions = s .pre .2 }
-
-same-length-5 : tie.Need-same-length-5
-same-length-5 c = search needs
-
-same-length-6 : tie.Need-same-length-6
-same-length-6 c = search needs
-
-same-length-7 : tie.Need-same-length-7
-same-length-7 c = search needs
 
 returns-3 : tie.Need-returns-3
 returns-3 c =
@@ -123,21 +78,6 @@ returns-3 c =
     let s = start pair in
     grow-right (s .args .goal) (s .pre .0) (s .pre .1) (some-world pair) (pair .before .next-pair .ensures) (pair .if2 .left) (set-given joined)
     (ap answerOf (sym (known .m .given .1)) ∙ asked .ask .ensures) _ (grown .grow .result) (grown .grow .ensures)
-
-same-length-8 : tie.Need-same-length-8
-same-length-8 c = search needs
-
-same-length-9 : tie.Need-same-length-9
-same-length-9 c = search needs
-
-same-length-10 : tie.Need-same-length-10
-same-length-10 c = search needs
-
-same-length-11 : tie.Need-same-length-11
-same-length-11 c = search needs
-
-same-length-12 : tie.Need-same-length-12
-same-length-12 c = search needs
 
 returns-4 : tie.Need-returns-4
 returns-4 c =
@@ -154,32 +94,32 @@ pub turn-spec : {M : Type 1} → statement M
 turn-spec =
     tie.close
     (tie.spec
-    begin-requires
-    same-length
-    same-length-2
-    same-length-3
+    (λ c κs. search needs)
+    (λ c. search needs)
+    (λ c. search needs)
+    (λ c. search needs)
     returns
     next-pair-requires
-    same-length-4
+    (λ c. search needs)
     returns-2
-    row-requires
+    (λ c κs. search needs)
     element-copy-out-single
-    single-requires
-    join-requires
-    add-ask
+    (λ c κs. search needs)
+    (λ c κs. search needs)
+    (λ c. search needs)
     element-copy-out-ask
-    ask-requires
-    enum-known-m
+    (λ c κs. search needs)
+    (λ c. search needs)
     grow-requires
-    enum-told
+    (λ c. search needs)
     learn-requires
-    same-length-5
-    same-length-6
-    same-length-7
+    (λ c. search needs)
+    (λ c. search needs)
+    (λ c. search needs)
     returns-3
-    same-length-8
-    same-length-9
-    same-length-10
-    same-length-11
-    same-length-12
+    (λ c. search needs)
+    (λ c. search needs)
+    (λ c. search needs)
+    (λ c. search needs)
+    (λ c. search needs)
     returns-4)

@@ -18,15 +18,9 @@ session c = sym (c .before .in-range .ensures) ∙ not-false _ (c .if1 .left)
 clause : (c : tie.Else2) → let s = c .before .before .before .before .args in flatInRange (s .s .n) (flatOf (s .left) (s .right)) ≡ true
 clause c = sym (c .before .flat-in-range .ensures) ∙ not-false _ (c .if2 .left)
 
-in-range-requires : tie.Need-in-range-requires
-in-range-requires c κs = search needs
-
 returns : tie.Need-returns
 unfolding flatRefusal
 returns c = rw (sym (c .before .in-range .ensures) ∙ not-true _ (c .if1 .taken))
-
-flat-in-range-requires : tie.Need-flat-in-range-requires
-flat-in-range-requires c κs = search needs
 
 returns-2 : tie.Need-returns-2
 unfolding flatRefusal
@@ -43,4 +37,4 @@ returns-4 c = let in-range = c .before .before in rw (session (in-range .before 
 pub flat-refusal-spec : {M : Type 1} → statement M
 flat-refusal-spec =
     tie.close
-    (tie.spec in-range-requires returns flat-in-range-requires returns-2 returns-3 returns-4)
+    (tie.spec (λ c κs. search needs) returns (λ c κs. search needs) returns-2 returns-3 returns-4)

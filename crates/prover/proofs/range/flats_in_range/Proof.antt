@@ -37,15 +37,6 @@ loop-holds : tie.Need-loop-holds Inv-loop μ-loop
 unfolding all tabulate
 loop-holds c = (omega arith, refl)
 
-row-requires : tie.Need-row-requires Inv-loop μ-loop
-row-requires c κs = search needs
-
-row-requires-2 : tie.Need-row-requires-2 Inv-loop μ-loop
-row-requires-2 c κs = search needs
-
-flat-in-range-requires : tie.Need-flat-in-range-requires Inv-loop μ-loop
-flat-in-range-requires c κs = search needs
-
 returns-2 : tie.Need-returns-2 Inv-loop μ-loop
 unfolding flatsInRange clauses
 returns-2 c =
@@ -84,9 +75,9 @@ flats-in-range-spec =
     μ-loop
     returns
     loop-holds
-    row-requires
-    row-requires-2
-    flat-in-range-requires
+    (λ c κs. search needs)
+    (λ c κs. search needs)
+    (λ c κs. search needs)
     returns-2
     add-i
     loop-less

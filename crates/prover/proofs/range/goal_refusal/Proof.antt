@@ -12,14 +12,8 @@ use Rattle.prover.proofs.range.goal_refusal.Tie as tie
 session : (c : tie.Else1) → inRange (c .before .before .args .s) ≡ true
 session c = sym (c .before .in-range .ensures) ∙ not-false _ (c .if1 .left)
 
-in-range-requires : tie.Need-in-range-requires
-in-range-requires c κs = search needs
-
 returns : tie.Need-returns
 returns c = rw (sym (c .before .in-range .ensures) ∙ not-true _ (c .if1 .taken))
-
-atom-or-bottom-requires : tie.Need-atom-or-bottom-requires
-atom-or-bottom-requires c κs = search needs
 
 returns-2 : tie.Need-returns-2
 unfolding goalRefusal
@@ -31,4 +25,4 @@ returns-3 c = rw (session (c .before .before), ← c .before .atom-or-bottom .en
 
 pub goal-refusal-spec : {M : Type 1} → statement M
 goal-refusal-spec =
-    tie.close (tie.spec in-range-requires returns atom-or-bottom-requires returns-2 returns-3)
+    tie.close (tie.spec (λ c κs. search needs) returns (λ c κs. search needs) returns-2 returns-3)

@@ -4,21 +4,6 @@ use borrow.Author.Needs.{needs}
 use Rattle.prover.proofs.range.held_in_range.Statement.{statement}
 use Rattle.prover.proofs.range.held_in_range.Tie as tie
 
-enum-told : tie.Need-enum-told
-enum-told c = search needs
-
-enum-known-h : tie.Need-enum-known-h
-enum-known-h c = search needs
-
-atom-or-bottom-requires : tie.Need-atom-or-bottom-requires
-atom-or-bottom-requires c κs = search needs
-
-enum-known-h-2 : tie.Need-enum-known-h-2
-enum-known-h-2 c = search needs
-
-atom-or-bottom-requires-2 : tie.Need-atom-or-bottom-requires-2
-atom-or-bottom-requires-2 c κs = search needs
-
 returns : tie.Need-returns
 unfolding heldInRange
 returns c = rw (c .enum-told .given .1)
@@ -35,11 +20,11 @@ pub held-in-range-spec : {M : Type 1} → statement M
 held-in-range-spec =
     tie.close
     (tie.spec
-    enum-told
-    enum-known-h
-    atom-or-bottom-requires
-    enum-known-h-2
-    atom-or-bottom-requires-2
+    (λ c. search needs)
+    (λ c. search needs)
+    (λ c κs. search needs)
+    (λ c. search needs)
+    (λ c κs. search needs)
     returns
     returns-2
     returns-3)

@@ -17,22 +17,13 @@ session c = sym (c .before .in-range .ensures) ∙ not-false _ (c .if1 .left)
 implication : (c : tie.Else2) → let s = c .before .before .before .before .args in implicationInRange (s .s .n) (record { a = s .a; b = s .b; c = s .c }) ≡ true
 implication c = sym (c .before .implication-in-range .ensures) ∙ not-false _ (c .if2 .left)
 
-in-range-requires : tie.Need-in-range-requires
-in-range-requires c κs = search needs
-
 returns : tie.Need-returns
 unfolding implicationRefusal
 returns c = rw (sym (c .before .in-range .ensures) ∙ not-true _ (c .if1 .taken))
 
-implication-in-range-requires : tie.Need-implication-in-range-requires
-implication-in-range-requires c κs = search needs
-
 returns-2 : tie.Need-returns-2
 unfolding implicationRefusal
 returns-2 c = rw (session (c .before .before), sym (c .before .implication-in-range .ensures) ∙ not-true _ (c .if2 .taken))
-
-no-row-requires : tie.Need-no-row-requires
-no-row-requires c κs = search needs
 
 returns-3 : tie.Need-returns-3
 unfolding implicationRefusal
@@ -58,11 +49,11 @@ pub implication-refusal-spec : {M : Type 1} → statement M
 implication-refusal-spec =
     tie.close
     (tie.spec
-    in-range-requires
+    (λ c κs. search needs)
     returns
-    implication-in-range-requires
+    (λ c κs. search needs)
     returns-2
-    no-row-requires
+    (λ c κs. search needs)
     returns-3
     returns-4
     returns-5)

@@ -43,9 +43,6 @@ element-copy-out-implication-in-range-2 c = omega arith
 element-copy-out-implication-in-range-3 : tie.Need-element-copy-out-implication-in-range-3 Inv-loop μ-loop
 element-copy-out-implication-in-range-3 c = omega arith
 
-implication-in-range-requires : tie.Need-implication-in-range-requires Inv-loop μ-loop
-implication-in-range-requires c κs = search needs
-
 returns-2 : tie.Need-returns-2 Inv-loop μ-loop
 unfolding implicationsInRange
 returns-2 c =
@@ -87,7 +84,7 @@ implications-in-range-spec =
     element-copy-out-implication-in-range
     element-copy-out-implication-in-range-2
     element-copy-out-implication-in-range-3
-    implication-in-range-requires
+    (λ c κs. search needs)
     returns-2
     add-i
     loop-less

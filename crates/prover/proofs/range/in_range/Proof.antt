@@ -26,22 +26,13 @@ worlds : (c : tie.Else5) → let s = c .before .before .before .before .before .
     worldsInRange (s .n) (s .worlds) ≡ true
 worlds c = sym (c .before .worlds-in-range .ensures) ∙ not-false _ (c .if5 .left)
 
-count-in-range-requires : tie.Need-count-in-range-requires
-count-in-range-requires c κs = search needs
-
 returns : tie.Need-returns
 unfolding inRange
 returns c = rw (sym (c .before .count-in-range .ensures) ∙ not-true _ (c .if1 .taken))
 
-flats-in-range-requires : tie.Need-flats-in-range-requires
-flats-in-range-requires c κs = search needs
-
 returns-2 : tie.Need-returns-2
 unfolding inRange
 returns-2 c = rw (count (c .before .before), sym (c .before .flats-in-range .ensures) ∙ not-true _ (c .if2 .taken))
-
-implications-in-range-requires : tie.Need-implications-in-range-requires
-implications-in-range-requires c κs = search needs
 
 returns-3 : tie.Need-returns-3
 unfolding inRange
@@ -49,18 +40,12 @@ returns-3 c =
     let after-flats = c .before .before in
     rw (count (after-flats .before .before), flats after-flats, sym (c .before .implications-in-range .ensures) ∙ not-true _ (c .if3 .taken))
 
-steps-in-range-requires : tie.Need-steps-in-range-requires
-steps-in-range-requires c κs = search needs
-
 returns-4 : tie.Need-returns-4
 unfolding inRange
 returns-4 c =
     let after-implications = c .before .before .before in
     let after-flats = after-implications .before .before in
     rw (count (after-flats .before .before), flats after-flats, implications after-implications, sym (c .before .steps-in-range .ensures) ∙ not-true _ (c .if4 .taken))
-
-worlds-in-range-requires : tie.Need-worlds-in-range-requires
-worlds-in-range-requires c κs = search needs
 
 returns-5 : tie.Need-returns-5
 unfolding inRange
@@ -76,9 +61,6 @@ returns-5 c =
       sym (c .before .worlds-in-range .ensures) ∙ not-true _ (c .if5 .taken),
     )
 
-held-in-range-requires : tie.Need-held-in-range-requires
-held-in-range-requires c κs = search needs
-
 returns-6 : tie.Need-returns-6
 unfolding inRange
 returns-6 c =
@@ -92,15 +74,15 @@ pub in-range-spec : {M : Type 1} → statement M
 in-range-spec =
     tie.close
     (tie.spec
-    count-in-range-requires
+    (λ c κs. search needs)
     returns
-    flats-in-range-requires
+    (λ c κs. search needs)
     returns-2
-    implications-in-range-requires
+    (λ c κs. search needs)
     returns-3
-    steps-in-range-requires
+    (λ c κs. search needs)
     returns-4
-    worlds-in-range-requires
+    (λ c κs. search needs)
     returns-5
-    held-in-range-requires
+    (λ c κs. search needs)
     returns-6)

@@ -41,12 +41,6 @@ loop-holds c = (omega arith, refl)
 element-copy-out-step-in-range : tie.Need-element-copy-out-step-in-range Inv-loop μ-loop
 element-copy-out-step-in-range c = omega arith
 
-row-requires : tie.Need-row-requires Inv-loop μ-loop
-row-requires c κs = search needs
-
-step-in-range-requires : tie.Need-step-in-range-requires Inv-loop μ-loop
-step-in-range-requires c κs = search needs
-
 returns-2 : tie.Need-returns-2 Inv-loop μ-loop
 unfolding stepsInRange
 returns-2 c =
@@ -86,8 +80,8 @@ steps-in-range-spec =
     returns
     loop-holds
     element-copy-out-step-in-range
-    row-requires
-    step-in-range-requires
+    (λ c κs. search needs)
+    (λ c κs. search needs)
     returns-2
     add-i
     loop-less

@@ -34,12 +34,6 @@ loop-holds : tie.Need-loop-holds Inv-loop μ-loop
 unfolding all tabulate
 loop-holds c = (omega arith, refl)
 
-row-requires : tie.Need-row-requires Inv-loop μ-loop
-row-requires c κs = search needs
-
-set-in-range-requires : tie.Need-set-in-range-requires Inv-loop μ-loop
-set-in-range-requires c κs = search needs
-
 returns-2 : tie.Need-returns-2 Inv-loop μ-loop
 unfolding worldsInRange
 returns-2 c =
@@ -78,8 +72,8 @@ worlds-in-range-spec =
     μ-loop
     returns
     loop-holds
-    row-requires
-    set-in-range-requires
+    (λ c κs. search needs)
+    (λ c κs. search needs)
     returns-2
     add-i
     loop-less

@@ -24,12 +24,6 @@ loop-holds c = (omega arith, λ third. refl)
 sub-i : tie.Need-sub-i Inv-loop μ-loop
 sub-i c = omega arith
 
-row-requires : tie.Need-row-requires Inv-loop μ-loop
-row-requires c κs = search needs
-
-is-beyond-requires : tie.Need-is-beyond-requires Inv-loop μ-loop
-is-beyond-requires c κs = search needs
-
 returns : tie.Need-returns Inv-loop μ-loop
 returns c = λ third.
     let l = c .before .before .before .before in
@@ -61,8 +55,8 @@ any-beyond-spec =
     μ-loop
     loop-holds
     sub-i
-    row-requires
-    is-beyond-requires
+    (λ c κs. search needs)
+    (λ c κs. search needs)
     returns
     loop-less
     loop-again

@@ -17,9 +17,6 @@ Inv-loop sets count w from x m i₀ i = (from ≤ i) × (i ≤ x .count) × ((j 
 abbrev μ-loop : tie.MeasureT-loop
 μ-loop sets count w from x m i₀ i = x .count - i
 
-row-requires : tie.Need-row-requires Inv-loop μ-loop
-row-requires c κs = search needs
-
 loop-holds : tie.Need-loop-holds Inv-loop μ-loop
 loop-holds c = (le-refl _, c .before .before .pre .0, λ j k l. absurd (omega arith))
 
@@ -72,7 +69,7 @@ first-at-spec =
     (tie.spec
     Inv-loop
     μ-loop
-    row-requires
+    (λ c κs. search needs)
     loop-holds
     element-copy-out-realized
     element-copy-out-realized-2

@@ -9,30 +9,6 @@ use Rattle.prover.proofs.Beyond.{beyond-tested}
 use Rattle.prover.proofs.realization.is_beyond.Statement.{statement}
 use Rattle.prover.proofs.realization.is_beyond.Tie as tie
 
-bounded-requires : tie.Need-bounded-requires
-bounded-requires c κs = search needs
-
-single-requires : tie.Need-single-requires
-single-requires c κs = search needs
-
-join-requires : tie.Need-join-requires
-join-requires c κs = search needs
-
-single-requires-2 : tie.Need-single-requires-2
-single-requires-2 c κs = search needs
-
-without-requires : tie.Need-without-requires
-without-requires c κs = search needs
-
-common-requires : tie.Need-common-requires
-common-requires c κs = search needs
-
-join-requires-2 : tie.Need-join-requires-2
-join-requires-2 c κs = search needs
-
-is-empty-requires : tie.Need-is-empty-requires
-is-empty-requires c κs = search needs
-
 returns : tie.Need-returns
 returns c = λ third.
     let w = c .before .before .before in
@@ -48,12 +24,12 @@ pub is-beyond-spec : {M : Type 1} → statement M
 is-beyond-spec =
     tie.close
     (tie.spec
-    bounded-requires
-    single-requires
-    join-requires
-    single-requires-2
-    without-requires
-    common-requires
-    join-requires-2
-    is-empty-requires
+    (λ c κs. search needs)
+    (λ c κs. search needs)
+    (λ c κs. search needs)
+    (λ c κs. search needs)
+    (λ c κs. search needs)
+    (λ c κs. search needs)
+    (λ c κs. search needs)
+    (λ c κs. search needs)
     returns)

@@ -11,27 +11,6 @@ use Rattle.prover.proofs.Beyond.{own-tested}
 use Rattle.prover.proofs.realization.realized.Statement.{statement}
 use Rattle.prover.proofs.realization.realized.Tie as tie
 
-bounded-requires : tie.Need-bounded-requires
-bounded-requires c κs = search needs
-
-single-requires : tie.Need-single-requires
-single-requires c κs = search needs
-
-single-requires-2 : tie.Need-single-requires-2
-single-requires-2 c κs = search needs
-
-join-requires : tie.Need-join-requires
-join-requires c κs = search needs
-
-single-requires-3 : tie.Need-single-requires-3
-single-requires-3 c κs = search needs
-
-join-requires-2 : tie.Need-join-requires-2
-join-requires-2 c κs = search needs
-
-meets-requires : tie.Need-meets-requires
-meets-requires c κs = search needs
-
 -- What the one test says.
 own : (c : tie.After-meets) → let j = c .before .before .before in let b = j .before .before .before in let s = b .before .before .args in
     c .meets .result ≡ has (num (s .m)) (s .a) || has (num (s .m)) (s .b) || has (num (s .m)) (s .c)
@@ -60,13 +39,13 @@ pub realized-spec : {M : Type 1} → statement M
 realized-spec =
     tie.close
     (tie.spec
-    bounded-requires
-    single-requires
-    single-requires-2
-    join-requires
-    single-requires-3
-    join-requires-2
-    meets-requires
+    (λ c κs. search needs)
+    (λ c κs. search needs)
+    (λ c κs. search needs)
+    (λ c κs. search needs)
+    (λ c κs. search needs)
+    (λ c κs. search needs)
+    (λ c κs. search needs)
     returns
     any-beyond-requires
     returns-2)

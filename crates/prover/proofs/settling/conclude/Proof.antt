@@ -5,12 +5,6 @@ use native.Mathlib.Omega.{arith}
 use Rattle.prover.proofs.settling.conclude.Statement.{statement}
 use Rattle.prover.proofs.settling.conclude.Tie as tie
 
-enum-known-end : tie.Need-enum-known-end
-enum-known-end c = search needs
-
-enum-known-end-2 : tie.Need-enum-known-end-2
-enum-known-end-2 c = search needs
-
 add-questions : tie.Need-add-questions
 add-questions c =
     let s = c .before .before .before .before in
@@ -20,9 +14,6 @@ with-verdict-requires : tie.Need-with-verdict-requires
 with-verdict-requires c κs =
     let s = c .before .before .before .before in
     omega (arith, few-valid _ _ (s .args .end) (s .pre .ended) _ (c .before .before .end2 .given .1))
-
-enum-known-end-3 : tie.Need-enum-known-end-3
-enum-known-end-3 c = search needs
 
 with-verdict-requires-2 : tie.Need-with-verdict-requires-2
 with-verdict-requires-2 c κs =
@@ -48,11 +39,11 @@ pub conclude-spec : {M : Type 1} → statement M
 conclude-spec =
     tie.close
     (tie.spec
-    enum-known-end
-    enum-known-end-2
+    (λ c. search needs)
+    (λ c. search needs)
     add-questions
     with-verdict-requires
-    enum-known-end-3
+    (λ c. search needs)
     with-verdict-requires-2
     returns
     returns-2

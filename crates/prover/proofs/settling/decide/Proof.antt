@@ -27,21 +27,6 @@ proceed-requires c κs =
     let u = usable s (in-range given) in
     (u, fresh s (in-range given) _ (given .args .goal) (given .pre) _ _ (written .write-known .ensures (s .n) u))
 
-same-length : tie.Need-same-length
-same-length c = search needs
-
-same-length-2 : tie.Need-same-length-2
-same-length-2 c = search needs
-
-same-length-3 : tie.Need-same-length-3
-same-length-3 c = search needs
-
-same-length-4 : tie.Need-same-length-4
-same-length-4 c = search needs
-
-same-length-5 : tie.Need-same-length-5
-same-length-5 c = search needs
-
 returns : tie.Need-returns
 returns c =
     let searched = c .before .before .before .before .before .before .before .before .before .before in
@@ -57,9 +42,9 @@ decide-spec =
     (tie.spec
     write-known-requires
     proceed-requires
-    same-length
-    same-length-2
-    same-length-3
-    same-length-4
-    same-length-5
+    (λ c. search needs)
+    (λ c. search needs)
+    (λ c. search needs)
+    (λ c. search needs)
+    (λ c. search needs)
     returns)

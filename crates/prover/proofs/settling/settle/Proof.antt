@@ -38,9 +38,6 @@ decide-requires c κs =
 conclude-requires : tie.Need-conclude-requires
 conclude-requires c κs = record { left = _; right = _; ended = c .before .before .before .before .before .decide .ensures }
 
-returns : tie.Need-returns
-returns c = search needs
-
 pub settle-spec : {M : Type 1} → statement M
 settle-spec =
     tie.close
@@ -52,4 +49,4 @@ settle-spec =
     slice-aggregate-decide-5
     decide-requires
     conclude-requires
-    returns)
+    (λ c. search needs))

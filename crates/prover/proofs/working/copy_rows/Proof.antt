@@ -17,12 +17,6 @@ abbrev μ-loop : tie.MeasureT-loop
 loop-holds : tie.Need-loop-holds Inv-loop μ-loop
 loop-holds c = (omega arith, record { size = refl; rows = λ j l. absurd (omega arith) })
 
-row-requires : tie.Need-row-requires Inv-loop μ-loop
-row-requires c κs = search needs
-
-set-row-requires : tie.Need-set-row-requires Inv-loop μ-loop
-set-row-requires c κs = search needs
-
 add-i : tie.Need-add-i Inv-loop μ-loop
 add-i c = omega arith
 
@@ -50,8 +44,8 @@ copy-rows-spec =
     Inv-loop
     μ-loop
     loop-holds
-    row-requires
-    set-row-requires
+    (λ c κs. search needs)
+    (λ c κs. search needs)
     add-i
     loop-less
     loop-again

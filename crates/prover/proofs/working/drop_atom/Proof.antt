@@ -7,26 +7,8 @@ use borrow.Author.Needs.{needs}
 use Rattle.prover.proofs.working.drop_atom.Statement.{statement}
 use Rattle.prover.proofs.working.drop_atom.Tie as tie
 
-has-requires : tie.Need-has-requires
-has-requires c κs = search needs
-
 returns : tie.Need-returns
 returns c = drop-absent _ _ _ _ _ (sym (c .before .has .ensures) ∙ not-true _ (c .if1 .taken))
-
-single-requires : tie.Need-single-requires
-single-requires c κs = search needs
-
-without-requires : tie.Need-without-requires
-without-requires c κs = search needs
-
-ask-requires : tie.Need-ask-requires
-ask-requires c κs = search needs
-
-enum-told : tie.Need-enum-told
-enum-told c = search needs
-
-enum-told-2 : tie.Need-enum-told-2
-enum-told-2 c = search needs
 
 returns-2 : tie.Need-returns-2
 returns-2 c =
@@ -48,12 +30,12 @@ pub drop-atom-spec : {M : Type 1} → statement M
 drop-atom-spec =
     tie.close
     (tie.spec
-    has-requires
+    (λ c κs. search needs)
     returns
-    single-requires
-    without-requires
-    ask-requires
-    enum-told
-    enum-told-2
+    (λ c κs. search needs)
+    (λ c κs. search needs)
+    (λ c κs. search needs)
+    (λ c. search needs)
+    (λ c. search needs)
     returns-2
     returns-3)

@@ -6,27 +6,6 @@ use borrow.Author.Needs.{needs}
 use Rattle.prover.proofs.working.write_learned.Statement.{statement}
 use Rattle.prover.proofs.working.write_learned.Tie as tie
 
-single-requires : tie.Need-single-requires
-single-requires c κs = search needs
-
-without-requires : tie.Need-without-requires
-without-requires c κs = search needs
-
-set-row-requires : tie.Need-set-row-requires
-set-row-requires c κs = search needs
-
-single-requires-2 : tie.Need-single-requires-2
-single-requires-2 c κs = search needs
-
-set-row-requires-2 : tie.Need-set-row-requires-2
-set-row-requires-2 c κs = search needs
-
-same-length : tie.Need-same-length
-same-length c = search needs
-
-same-length-2 : tie.Need-same-length-2
-same-length-2 c = search needs
-
 returns : tie.Need-returns
 returns c =
     let right = c .before .before in
@@ -39,11 +18,11 @@ pub write-learned-spec : {M : Type 1} → statement M
 write-learned-spec =
     tie.close
     (tie.spec
-    single-requires
-    without-requires
-    set-row-requires
-    single-requires-2
-    set-row-requires-2
-    same-length
-    same-length-2
+    (λ c κs. search needs)
+    (λ c κs. search needs)
+    (λ c κs. search needs)
+    (λ c κs. search needs)
+    (λ c κs. search needs)
+    (λ c. search needs)
+    (λ c. search needs)
     returns)

@@ -41,12 +41,6 @@ element-copy-out-write-learned c = number (c .before .before .before)
 element-copy-out-write-learned-2 : tie.Need-element-copy-out-write-learned-2 Inv-loop μ-loop
 element-copy-out-write-learned-2 c = number (c .before .before .before .before)
 
-row-requires : tie.Need-row-requires Inv-loop μ-loop
-row-requires c κs = search needs
-
-write-learned-requires : tie.Need-write-learned-requires Inv-loop μ-loop
-write-learned-requires c κs = search needs
-
 add-k : tie.Need-add-k Inv-loop μ-loop
 add-k c = omega (arith, place (c .before .before .before .before .before .before .before .before .before .before .before .before .before .before))
 
@@ -85,8 +79,8 @@ write-steps-spec =
     add-write-learned
     element-copy-out-write-learned
     element-copy-out-write-learned-2
-    row-requires
-    write-learned-requires
+    (λ c κs. search needs)
+    (λ c κs. search needs)
     add-k
     loop-less
     loop-again

@@ -6,27 +6,6 @@ use borrow.Author.Needs.{needs}
 use Rattle.report.proofs.lines.step.Statement.{statement}
 use Rattle.report.proofs.lines.step.Tie as tie
 
-slice-aggregate-figure : tie.Need-slice-aggregate-figure
-slice-aggregate-figure c = search needs
-
-figure-requires : tie.Need-figure-requires
-figure-requires c κs = search needs
-
-slice-aggregate-labelled : tie.Need-slice-aggregate-labelled
-slice-aggregate-labelled c = search needs
-
-labelled-requires : tie.Need-labelled-requires
-labelled-requires c κs = search needs
-
-slice-aggregate-word : tie.Need-slice-aggregate-word
-slice-aggregate-word c = search needs
-
-word-requires : tie.Need-word-requires
-word-requires c κs = search needs
-
-same-length : tie.Need-same-length
-same-length c = search needs
-
 returns : tie.Need-returns
 unfolding stepLine ascii
 returns c =
@@ -38,11 +17,11 @@ pub step-spec : {M : Type 1} → statement M
 step-spec =
     tie.close
     (tie.spec
-    slice-aggregate-figure
-    figure-requires
-    slice-aggregate-labelled
-    labelled-requires
-    slice-aggregate-word
-    word-requires
-    same-length
+    (λ c. search needs)
+    (λ c κs. search needs)
+    (λ c. search needs)
+    (λ c κs. search needs)
+    (λ c. search needs)
+    (λ c κs. search needs)
+    (λ c. search needs)
     returns)

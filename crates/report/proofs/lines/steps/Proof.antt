@@ -29,15 +29,6 @@ same-length c = c .before .before .loop .inv .1 .size
 returns : tie.Need-returns Inv-loop μ-loop
 returns c = lines-full stepLine (stepRow (c .before .before .before .before .args .t3)) (c .before .before .loop .i) _ (c .before .before .loop .inv .0) (omega arith) (c .before .before .loop .inv .1)
 
-byte-at-requires : tie.Need-byte-at-requires Inv-loop μ-loop
-byte-at-requires c κs = search needs
-
-row-requires : tie.Need-row-requires Inv-loop μ-loop
-row-requires c κs = search needs
-
-step-requires : tie.Need-step-requires Inv-loop μ-loop
-step-requires c κs = search needs
-
 add-i : tie.Need-add-i Inv-loop μ-loop
 add-i c = omega arith
 
@@ -69,9 +60,9 @@ steps-spec =
     loop-holds
     same-length
     returns
-    byte-at-requires
-    row-requires
-    step-requires
+    (λ c κs. search needs)
+    (λ c κs. search needs)
+    (λ c κs. search needs)
     add-i
     loop-less
     loop-again

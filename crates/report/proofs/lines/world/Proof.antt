@@ -6,21 +6,6 @@ use borrow.Author.Needs.{needs}
 use Rattle.report.proofs.lines.world.Statement.{statement}
 use Rattle.report.proofs.lines.world.Tie as tie
 
-slice-aggregate-labelled : tie.Need-slice-aggregate-labelled
-slice-aggregate-labelled c = search needs
-
-labelled-requires : tie.Need-labelled-requires
-labelled-requires c κs = search needs
-
-slice-aggregate-word : tie.Need-slice-aggregate-word
-slice-aggregate-word c = search needs
-
-word-requires : tie.Need-word-requires
-word-requires c κs = search needs
-
-same-length : tie.Need-same-length
-same-length c = search needs
-
 returns : tie.Need-returns
 unfolding worldLine ascii
 returns c = both (c .before .before .before .before .before .before .before .labelled .ensures) (c .before .before .word .ensures)
@@ -29,9 +14,9 @@ pub world-spec : {M : Type 1} → statement M
 world-spec =
     tie.close
     (tie.spec
-    slice-aggregate-labelled
-    labelled-requires
-    slice-aggregate-word
-    word-requires
-    same-length
+    (λ c. search needs)
+    (λ c κs. search needs)
+    (λ c. search needs)
+    (λ c κs. search needs)
+    (λ c. search needs)
     returns)

@@ -31,12 +31,6 @@ returns c =
     let l = c .before .before in
     lines-full worldLine (rowOf (l .before .before .args .t3 .sets)) (l .loop .i) _ (l .loop .inv .0) (omega arith) (l .loop .inv .1)
 
-row-requires : tie.Need-row-requires Inv-loop μ-loop
-row-requires c κs = search needs
-
-world-requires : tie.Need-world-requires Inv-loop μ-loop
-world-requires c κs = search needs
-
 add-i : tie.Need-add-i Inv-loop μ-loop
 add-i c = omega arith
 
@@ -66,8 +60,8 @@ worlds-spec =
     loop-holds
     same-length
     returns
-    row-requires
-    world-requires
+    (λ c κs. search needs)
+    (λ c κs. search needs)
     add-i
     loop-less
     loop-again

@@ -4,12 +4,6 @@ use mathlib.Core.Path.{_∙_}
 use Rattle.sat.proofs.known.both.Statement.{statement}
 use Rattle.sat.proofs.known.both.Tie as tie
 
-lacking-requires : tie.Need-lacking-requires
-lacking-requires c κs = search needs
-
-having-requires : tie.Need-having-requires
-having-requires c κs = search needs
-
 returns : tie.Need-returns
 returns c =
     let l = c .before .lacking .ensures in
@@ -17,4 +11,4 @@ returns c =
     record { has-is = h .has-is ∙ rw (l .has-is); lacks-is = h .lacks-is ∙ l .lacks-is }
 
 pub both-spec : {M : Type 1} → statement M
-both-spec = tie.close (tie.spec lacking-requires having-requires returns)
+both-spec = tie.close (tie.spec (λ c κs. search needs) (λ c κs. search needs) returns)

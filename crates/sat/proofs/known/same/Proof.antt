@@ -3,12 +3,6 @@ use borrow.Author.Needs.{needs}
 use Rattle.sat.proofs.known.same.Statement.{statement}
 use Rattle.sat.proofs.known.same.Tie as tie
 
-same-requires : tie.Need-same-requires
-same-requires c κs = search needs
-
-same-requires-2 : tie.Need-same-requires-2
-same-requires-2 c κs = search needs
-
 returns : tie.Need-returns
 returns c = rw (← c .before .before .before .same .ensures, c .before .before .if1 .taken) (c .same2 .ensures)
 
@@ -16,4 +10,4 @@ returns-2 : tie.Need-returns-2
 returns-2 c = rw (← c .before .same .ensures, c .if1 .left)
 
 pub same-spec : {M : Type 1} → statement M
-same-spec = tie.close (tie.spec same-requires same-requires-2 returns returns-2)
+same-spec = tie.close (tie.spec (λ c κs. search needs) (λ c κs. search needs) returns returns-2)

@@ -9,35 +9,14 @@ use Rattle.sat.proofs.Knowledge.{both-fit, clash}
 use Rattle.sat.proofs.propagation.conflicts.Statement.{statement}
 use Rattle.sat.proofs.propagation.conflicts.Tie as tie
 
-both-requires : tie.Need-both-requires
-both-requires c κs = search needs
-
-meets-requires : tie.Need-meets-requires
-meets-requires c κs = search needs
-
 returns : tie.Need-returns
 returns c e m l h fp fq =
     clash _ _ m (true-T (sym (c .before .meets .ensures) ∙ c .if1 .taken)) (both-fit _ _ _ (c .before .before .before .before .both .ensures) m fp fq)
-
-bounded-requires : tie.Need-bounded-requires
-bounded-requires c κs = search needs
-
-bounded-requires-2 : tie.Need-bounded-requires-2
-bounded-requires-2 c κs = search needs
 
 propagate-requires : tie.Need-propagate-requires
 propagate-requires c κs =
     let e = c .before .before in
     record { apart = apart-of _ _ (sym (e .before .meets .ensures) ∙ e .if1 .left); has-below = c .before .bounded .ensures; lacks-below = c .bounded2 .ensures }
-
-enum-told : tie.Need-enum-told
-enum-told c = search needs
-
-enum-told-2 : tie.Need-enum-told-2
-enum-told-2 c = search needs
-
-enum-told-3 : tie.Need-enum-told-3
-enum-told-3 c = search needs
 
 returns-2 : tie.Need-returns-2
 returns-2 c e m l h fp fq =
@@ -55,15 +34,15 @@ pub conflicts-spec : {M : Type 1} → statement M
 conflicts-spec =
     tie.close
     (tie.spec
-    both-requires
-    meets-requires
+    (λ c κs. search needs)
+    (λ c κs. search needs)
     returns
-    bounded-requires
-    bounded-requires-2
+    (λ c κs. search needs)
+    (λ c κs. search needs)
     propagate-requires
-    enum-told
-    enum-told-2
-    enum-told-3
+    (λ c. search needs)
+    (λ c. search needs)
+    (λ c. search needs)
     returns-2
     returns-3
     returns-4)

@@ -6,14 +6,8 @@ use native.Mathlib.Omega.{arith}
 use Rattle.sat.proofs.propagation.failing.Statement.{statement}
 use Rattle.sat.proofs.propagation.failing.Tie as tie
 
-next-failing-requires : tie.Need-next-failing-requires
-next-failing-requires c κs = search needs
-
 returns : tie.Need-returns
 returns c h = absurd (omega arith)
-
-next-failing-requires-2 : tie.Need-next-failing-requires-2
-next-failing-requires-2 c κs = search needs
 
 returns-2 : tie.Need-returns-2
 returns-2 c h k l = c .before .next-failing2 .ensures .passed k (omega arith) (le-trans l h)
@@ -27,4 +21,4 @@ returns-3 c h k l =
     ]
 
 pub failing-spec : {M : Type 1} → statement M
-failing-spec = tie.close (tie.spec next-failing-requires returns next-failing-requires-2 returns-2 returns-3)
+failing-spec = tie.close (tie.spec (λ c κs. search needs) returns (λ c κs. search needs) returns-2 returns-3)

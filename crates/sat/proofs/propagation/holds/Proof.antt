@@ -9,18 +9,6 @@ use Rattle.sat.proofs.Table.{satisfies-tested}
 use Rattle.sat.proofs.propagation.holds.Statement.{statement}
 use Rattle.sat.proofs.propagation.holds.Tie as tie
 
-without-requires : tie.Need-without-requires
-without-requires c κs = search needs
-
-common-requires : tie.Need-common-requires
-common-requires c κs = search needs
-
-join-requires : tie.Need-join-requires
-join-requires c κs = search needs
-
-is-empty-requires : tie.Need-is-empty-requires
-is-empty-requires c κs = search needs
-
 returns : tie.Need-returns
 returns c =
     ap not (c .is-empty .ensures
@@ -28,4 +16,4 @@ returns c =
     ∙ satisfies-tested _ _ _
 
 pub holds-spec : {M : Type 1} → statement M
-holds-spec = tie.close (tie.spec without-requires common-requires join-requires is-empty-requires returns)
+holds-spec = tie.close (tie.spec (λ c κs. search needs) (λ c κs. search needs) (λ c κs. search needs) (λ c κs. search needs) returns)

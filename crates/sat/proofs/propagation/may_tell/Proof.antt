@@ -7,33 +7,6 @@ use Rattle.atoms.specs.Sets.{union, withoutLowest}
 use Rattle.sat.proofs.propagation.may_tell.Statement.{statement}
 use Rattle.sat.proofs.propagation.may_tell.Tie as tie
 
-common-requires : tie.Need-common-requires
-common-requires c κs = search needs
-
-common-requires-2 : tie.Need-common-requires-2
-common-requires-2 c κs = search needs
-
-join-requires : tie.Need-join-requires
-join-requires c κs = search needs
-
-without-requires : tie.Need-without-requires
-without-requires c κs = search needs
-
-without-requires-2 : tie.Need-without-requires-2
-without-requires-2 c κs = search needs
-
-join-requires-2 : tie.Need-join-requires-2
-join-requires-2 c κs = search needs
-
-without-lowest-requires : tie.Need-without-lowest-requires
-without-lowest-requires c κs = search needs
-
-join-requires-3 : tie.Need-join-requires-3
-join-requires-3 c κs = search needs
-
-is-empty-requires : tie.Need-is-empty-requires
-is-empty-requires c κs = search needs
-
 returns : tie.Need-returns
 returns c =
     let o = c .before .before .before in
@@ -46,13 +19,13 @@ pub may-tell-spec : {M : Type 1} → statement M
 may-tell-spec =
     tie.close
     (tie.spec
-    common-requires
-    common-requires-2
-    join-requires
-    without-requires
-    without-requires-2
-    join-requires-2
-    without-lowest-requires
-    join-requires-3
-    is-empty-requires
+    (λ c κs. search needs)
+    (λ c κs. search needs)
+    (λ c κs. search needs)
+    (λ c κs. search needs)
+    (λ c κs. search needs)
+    (λ c κs. search needs)
+    (λ c κs. search needs)
+    (λ c κs. search needs)
+    (λ c κs. search needs)
     returns)

@@ -14,29 +14,14 @@ Inv-loop left right count from p i₀ i = PassedSilent left right p from i
 abbrev μ-loop : tie.MeasureT-loop
 μ-loop left right count from p i₀ i = count - i
 
-rows-requires : tie.Need-rows-requires Inv-loop μ-loop
-rows-requires c κs = search needs
-
 returns : tie.Need-returns Inv-loop μ-loop
 returns c = passed-none _ _
-
-rows-requires-2 : tie.Need-rows-requires-2 Inv-loop μ-loop
-rows-requires-2 c κs = search needs
 
 returns-2 : tie.Need-returns-2 Inv-loop μ-loop
 returns-2 c = passed-none _ _
 
 loop-holds : tie.Need-loop-holds Inv-loop μ-loop
 loop-holds c = passed-none _ _
-
-row-requires : tie.Need-row-requires Inv-loop μ-loop
-row-requires c κs = search needs
-
-row-requires-2 : tie.Need-row-requires-2 Inv-loop μ-loop
-row-requires-2 c κs = search needs
-
-may-tell-requires : tie.Need-may-tell-requires Inv-loop μ-loop
-may-tell-requires c κs = search needs
 
 returns-3 : tie.Need-returns-3 Inv-loop μ-loop
 returns-3 c = c .before .before .before .before .before .loop .inv
@@ -64,14 +49,14 @@ next-telling-spec =
     (tie.spec
     Inv-loop
     μ-loop
-    rows-requires
+    (λ c κs. search needs)
     returns
-    rows-requires-2
+    (λ c κs. search needs)
     returns-2
     loop-holds
-    row-requires
-    row-requires-2
-    may-tell-requires
+    (λ c κs. search needs)
+    (λ c κs. search needs)
+    (λ c κs. search needs)
     returns-3
     add-i
     loop-less

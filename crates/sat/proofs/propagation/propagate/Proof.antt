@@ -24,23 +24,14 @@ loop-holds c = grown-refl _ _ _ (c .before .before .pre)
 raise-requires : tie.Need-raise-requires Inv-loop μ-loop
 raise-requires c κs = c .loop .inv .proper
 
-enum-told : tie.Need-enum-told Inv-loop μ-loop
-enum-told c = search needs
-
 returns : tie.Need-returns Inv-loop μ-loop
 returns c m e h = subst (Propagates _ _) (c .enum-told .given .1) (c .before .before .raise .ensures) m (c .before .before .before .loop .inv .keeps m e h) h
-
-enum-known-r : tie.Need-enum-known-r Inv-loop μ-loop
-enum-known-r c = search needs
 
 returns-2 : tie.Need-returns-2 Inv-loop μ-loop
 returns-2 c =
     let r = c .before .before .before in
     let model = subst (Propagates _ _) (c .before .r .given .1) (r .raise .ensures) in
     (grown-trans _ (r .before .loop .inv) (model .0), model .1)
-
-enum-known-r-2 : tie.Need-enum-known-r-2 Inv-loop μ-loop
-enum-known-r-2 c = search needs
 
 -- What the clauses that fail add.
 raised : (c : tie.After-r2 Inv-loop μ-loop) → let l = c .before .before .before in let a = l .before .before .before .args in
@@ -50,16 +41,10 @@ raised c = subst (Propagates _ _) (c .r2 .given .1) (c .before .before .raise .e
 sweep-requires : tie.Need-sweep-requires Inv-loop μ-loop
 sweep-requires c κs = raised (c .before) .proper
 
-enum-told-2 : tie.Need-enum-told-2 Inv-loop μ-loop
-enum-told-2 c = search needs
-
 returns-3 : tie.Need-returns-3 Inv-loop μ-loop
 returns-3 c m e h =
     let r = c .before .before .before .before in
     subst (Forces _ _) (c .enum-told2 .given .1) (c .before .before .sweep .ensures) m (raised r .keeps m (r .before .before .before .loop .inv .keeps m e h) h) h
-
-enum-known-s : tie.Need-enum-known-s Inv-loop μ-loop
-enum-known-s c = search needs
 
 -- What the sweep adds to it.
 swept : (c : tie.After-s Inv-loop μ-loop) → let r = c .before .before .before .before in let a = r .before .before .before .before .before .before .args in
@@ -70,9 +55,6 @@ swept c = subst (Forces _ _) (c .s .given .1) (c .before .before .sweep .ensures
 grown : (c : tie.After-s Inv-loop μ-loop) → let a = c .before .before .before .before .before .before .before .before .before .before .args in
     Forces (AllHold (a .left .now) (a .right .now) (a .count)) (a .p) (Known (c .s .given .0 .0))
 grown c = let r = c .before .before .before .before in grown-trans _ (grown-trans _ (r .before .before .before .loop .inv) (raised r)) (swept c)
-
-same-requires : tie.Need-same-requires Inv-loop μ-loop
-same-requires c κs = search needs
 
 returns-4 : tie.Need-returns-4 Inv-loop μ-loop
 returns-4 c = grown (c .before .before .before)
@@ -96,16 +78,16 @@ propagate-spec =
     μ-loop
     loop-holds
     raise-requires
-    enum-told
+    (λ c. search needs)
     returns
-    enum-known-r
+    (λ c. search needs)
     returns-2
-    enum-known-r-2
+    (λ c. search needs)
     sweep-requires
-    enum-told-2
+    (λ c. search needs)
     returns-3
-    enum-known-s
-    same-requires
+    (λ c. search needs)
+    (λ c κs. search needs)
     returns-4
     loop-less
     loop-again)

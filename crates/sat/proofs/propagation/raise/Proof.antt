@@ -19,32 +19,17 @@ Inv-loop left right count q₀ i₀ q i = Forces (AllHold left right count) q₀
 abbrev μ-loop : tie.MeasureT-loop
 μ-loop left right count q₀ i₀ q i = 2 ^ suc limit - (num (q .has) + num (q .lacks))
 
-failing-requires : tie.Need-failing-requires Inv-loop μ-loop
-failing-requires c κs = search needs
-
 loop-holds : tie.Need-loop-holds Inv-loop μ-loop
 loop-holds c = (grown-refl _ _ _ (c .before .before .before .pre), c .failing .ensures)
 
-row-requires : tie.Need-row-requires Inv-loop μ-loop
-row-requires c κs = search needs
-
-row-requires-2 : tie.Need-row-requires-2 Inv-loop μ-loop
-row-requires-2 c κs = search needs
-
 unit-requires : tie.Need-unit-requires Inv-loop μ-loop
 unit-requires c κs = c .before .before .before .loop .inv .0 .proper
-
-enum-told : tie.Need-enum-told Inv-loop μ-loop
-enum-told c = search needs
 
 returns : tie.Need-returns Inv-loop μ-loop
 returns c m e h =
     let u = c .before .before in
     subst (Forces _ _) (c .enum-told .given .1) (u .unit .ensures) m (u .before .before .before .before .loop .inv .0 .keeps m e h)
     (row-holds _ _ m _ _ _ (u .before .before .row .ensures) (u .before .row2 .ensures) _ (omega arith) h)
-
-enum-known-s : tie.Need-enum-known-s Inv-loop μ-loop
-enum-known-s c = search needs
 
 -- What the clause adds.
 added : (c : tie.After-s Inv-loop μ-loop) → let l = c .before .before .before .before .before .before in let a = l .before .before .before .before .args in
@@ -54,17 +39,11 @@ added c =
     grown-weaken _ _ (λ m h. row-holds _ _ m _ _ _ (u .before .before .row .ensures) (u .before .row2 .ensures) _ (omega arith) h)
     (subst (Forces _ _) (c .s .given .1) (u .unit .ensures))
 
-same-requires : tie.Need-same-requires Inv-loop μ-loop
-same-requires c κs = search needs
-
 returns-2 : tie.Need-returns-2 Inv-loop μ-loop
 returns-2 c = c .before .before .before .before .before .before .before .before .before .loop .inv .0
 
 add-failing : tie.Need-add-failing Inv-loop μ-loop
 add-failing c = omega arith
-
-failing-requires-2 : tie.Need-failing-requires-2 Inv-loop μ-loop
-failing-requires-2 c κs = search needs
 
 loop-less : tie.Need-loop-less Inv-loop μ-loop
 loop-less c =
@@ -88,18 +67,18 @@ raise-spec =
     (tie.spec
     Inv-loop
     μ-loop
-    failing-requires
+    (λ c κs. search needs)
     loop-holds
-    row-requires
-    row-requires-2
+    (λ c κs. search needs)
+    (λ c κs. search needs)
     unit-requires
-    enum-told
+    (λ c. search needs)
     returns
-    enum-known-s
-    same-requires
+    (λ c. search needs)
+    (λ c κs. search needs)
     returns-2
     add-failing
-    failing-requires-2
+    (λ c κs. search needs)
     loop-less
     loop-again
     returns-3)

@@ -17,23 +17,11 @@ Inv-loop left right count q₀ i₀ q i = Forces (AllHold left right count) q₀
 abbrev μ-loop : tie.MeasureT-loop
 μ-loop left right count q₀ i₀ q i = count - i
 
-next-telling-requires : tie.Need-next-telling-requires Inv-loop μ-loop
-next-telling-requires c κs = search needs
-
 loop-holds : tie.Need-loop-holds Inv-loop μ-loop
 loop-holds c = grown-refl _ _ _ (c .before .before .before .pre)
 
-row-requires : tie.Need-row-requires Inv-loop μ-loop
-row-requires c κs = search needs
-
-row-requires-2 : tie.Need-row-requires-2 Inv-loop μ-loop
-row-requires-2 c κs = search needs
-
 unit-requires : tie.Need-unit-requires Inv-loop μ-loop
 unit-requires c κs = c .before .before .before .loop .inv .proper
-
-enum-told : tie.Need-enum-told Inv-loop μ-loop
-enum-told c = search needs
 
 returns : tie.Need-returns Inv-loop μ-loop
 returns c m e h =
@@ -41,14 +29,8 @@ returns c m e h =
     subst (Forces _ _) (c .enum-told .given .1) (u .unit .ensures) m (u .before .before .before .before .loop .inv .keeps m e h)
     (row-holds _ _ m _ _ _ (u .before .before .row .ensures) (u .before .row2 .ensures) _ (omega arith) h)
 
-enum-known-s : tie.Need-enum-known-s Inv-loop μ-loop
-enum-known-s c = search needs
-
 add-next-telling : tie.Need-add-next-telling Inv-loop μ-loop
 add-next-telling c = omega arith
-
-next-telling-requires-2 : tie.Need-next-telling-requires-2 Inv-loop μ-loop
-next-telling-requires-2 c κs = search needs
 
 loop-less : tie.Need-loop-less Inv-loop μ-loop
 loop-less c = omega (arith, c .next-telling2 .ensures .after)
@@ -69,16 +51,16 @@ sweep-spec =
     (tie.spec
     Inv-loop
     μ-loop
-    next-telling-requires
+    (λ c κs. search needs)
     loop-holds
-    row-requires
-    row-requires-2
+    (λ c κs. search needs)
+    (λ c κs. search needs)
     unit-requires
-    enum-told
+    (λ c. search needs)
     returns
-    enum-known-s
+    (λ c. search needs)
     add-next-telling
-    next-telling-requires-2
+    (λ c κs. search needs)
     loop-less
     loop-again
     returns-2)

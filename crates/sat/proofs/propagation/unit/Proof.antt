@@ -6,18 +6,6 @@ use Rattle.sat.proofs.Clause.{conflict, learn-has, learn-lacks}
 use Rattle.sat.proofs.propagation.unit.Statement.{statement}
 use Rattle.sat.proofs.propagation.unit.Tie as tie
 
-without-requires : tie.Need-without-requires
-without-requires c κs = search needs
-
-without-requires-2 : tie.Need-without-requires-2
-without-requires-2 c κs = search needs
-
-is-empty-requires : tie.Need-is-empty-requires
-is-empty-requires c κs = search needs
-
-is-empty-requires-2 : tie.Need-is-empty-requires-2
-is-empty-requires-2 c κs = search needs
-
 returns : tie.Need-returns
 returns c =
     let e = c .before .before in
@@ -25,15 +13,6 @@ returns c =
     conflict _ _ _ _ _ _ (w .before .without .ensures) (w .without2 .ensures)
     (eqb-true _ _ (sym (e .before .is-empty .ensures) ∙ e .if1 .taken))
     (eqb-true _ _ (sym (c .before .is-empty2 .ensures) ∙ c .if2 .taken))
-
-highest-requires : tie.Need-highest-requires
-highest-requires c κs = search needs
-
-same-requires : tie.Need-same-requires
-same-requires c κs = search needs
-
-having-requires : tie.Need-having-requires
-having-requires c κs = search needs
 
 returns-2 : tie.Need-returns-2
 returns-2 c =
@@ -47,21 +26,6 @@ returns-2 c =
     (s .before .highest .ensures) (sym (s .same .ensures) ∙ c .before .if3 .taken) (c .having .ensures)
     (w .before .before .before .before .pre)
 
-returns-3 : tie.Need-returns-3
-returns-3 c = search needs
-
-is-empty-requires-3 : tie.Need-is-empty-requires-3
-is-empty-requires-3 c κs = search needs
-
-highest-requires-2 : tie.Need-highest-requires-2
-highest-requires-2 c κs = search needs
-
-same-requires-2 : tie.Need-same-requires-2
-same-requires-2 c κs = search needs
-
-lacking-requires : tie.Need-lacking-requires
-lacking-requires c κs = search needs
-
 returns-4 : tie.Need-returns-4
 returns-4 c =
     let s = c .before .before in
@@ -74,30 +38,24 @@ returns-4 c =
     (s .before .highest2 .ensures) (sym (s .same2 .ensures) ∙ c .before .if5 .taken) (c .lacking .ensures)
     (w .before .before .before .before .pre)
 
-returns-5 : tie.Need-returns-5
-returns-5 c = search needs
-
-returns-6 : tie.Need-returns-6
-returns-6 c = search needs
-
 pub unit-spec : {M : Type 1} → statement M
 unit-spec =
     tie.close
     (tie.spec
-    without-requires
-    without-requires-2
-    is-empty-requires
-    is-empty-requires-2
+    (λ c κs. search needs)
+    (λ c κs. search needs)
+    (λ c κs. search needs)
+    (λ c κs. search needs)
     returns
-    highest-requires
-    same-requires
-    having-requires
+    (λ c κs. search needs)
+    (λ c κs. search needs)
+    (λ c κs. search needs)
     returns-2
-    returns-3
-    is-empty-requires-3
-    highest-requires-2
-    same-requires-2
-    lacking-requires
+    (λ c. search needs)
+    (λ c κs. search needs)
+    (λ c κs. search needs)
+    (λ c κs. search needs)
+    (λ c κs. search needs)
     returns-4
-    returns-5
-    returns-6)
+    (λ c. search needs)
+    (λ c. search needs))

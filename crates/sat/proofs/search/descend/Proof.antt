@@ -21,31 +21,10 @@ left-open c = subst (Propagates _ _) (c .q2 .given .1) (c .before .before .propa
 propagate-requires : tie.Need-propagate-requires
 propagate-requires c κs = c .before .before .pre .fair
 
-enum-told : tie.Need-enum-told
-enum-told c = search needs
-
 needed-requires : tie.Need-needed-requires
 needed-requires c κs =
     conflict-blocks _ _ _ _ (c .before .before .before .before .before .pre)
     (subst (Propagates _ _) (c .enum-told .given .1) (c .before .before .propagate .ensures))
-
-enum-known-q : tie.Need-enum-known-q
-enum-known-q c = search needs
-
-enum-known-q-2 : tie.Need-enum-known-q-2
-enum-known-q-2 c = search needs
-
-atoms-requires : tie.Need-atoms-requires
-atoms-requires c κs = search needs
-
-complement-requires : tie.Need-complement-requires
-complement-requires c κs = search needs
-
-is-empty-requires : tie.Need-is-empty-requires
-is-empty-requires c κs = search needs
-
-highest-requires : tie.Need-highest-requires
-highest-requires c κs = search needs
 
 returns : tie.Need-returns
 returns c =
@@ -56,16 +35,10 @@ returns c =
           (c .highest .ensures .highest (positive _ (sym (e .is-empty .ensures) ∙ not-true _ (c .before .if1 .taken))));
     }
 
-all-hold-requires : tie.Need-all-hold-requires
-all-hold-requires c κs = search needs
-
 returns-2 : tie.Need-returns-2
 returns-2 c =
     let q = c .before .before .before .before .before .before .before .before in
     known-least _ _ _ _ _ (left-open q) (all-hold-iff _ _ _ _ .0 (true-T (sym (c .before .all-hold .ensures) ∙ c .if2 .taken)))
-
-returns-3 : tie.Need-returns-3
-returns-3 c = search needs
 
 returns-4 : tie.Need-returns-4
 returns-4 c =
@@ -89,17 +62,17 @@ descend-spec =
     tie.close
     (tie.spec
     propagate-requires
-    enum-told
+    (λ c. search needs)
     needed-requires
-    enum-known-q
-    enum-known-q-2
-    atoms-requires
-    complement-requires
-    is-empty-requires
-    highest-requires
+    (λ c. search needs)
+    (λ c. search needs)
+    (λ c κs. search needs)
+    (λ c κs. search needs)
+    (λ c κs. search needs)
+    (λ c κs. search needs)
     returns
-    all-hold-requires
+    (λ c κs. search needs)
     returns-2
-    returns-3
+    (λ c. search needs)
     returns-4
     returns-5)

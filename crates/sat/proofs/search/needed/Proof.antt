@@ -17,32 +17,11 @@ Inv-loop left right count base rest₀ untried₀ rest untried = Blocks (AllHold
 abbrev μ-loop : tie.MeasureT-loop
 μ-loop left right count base rest₀ untried₀ rest untried = num untried
 
-atoms-requires : tie.Need-atoms-requires Inv-loop μ-loop
-atoms-requires c κs = search needs
-
-without-lowest-requires : tie.Need-without-lowest-requires Inv-loop μ-loop
-without-lowest-requires c κs = search needs
-
 dropped-requires : tie.Need-dropped-requires Inv-loop μ-loop
 dropped-requires c κs = c .before .before .before .before .pre
 
-atoms-requires-2 : tie.Need-atoms-requires-2 Inv-loop μ-loop
-atoms-requires-2 c κs = search needs
-
-without-lowest-requires-2 : tie.Need-without-lowest-requires-2 Inv-loop μ-loop
-without-lowest-requires-2 c κs = search needs
-
 loop-holds : tie.Need-loop-holds Inv-loop μ-loop
 loop-holds c = (c .before .before .dropped .ensures .0, part-refl _)
-
-is-empty-requires : tie.Need-is-empty-requires Inv-loop μ-loop
-is-empty-requires c κs = search needs
-
-without-lowest-requires-3 : tie.Need-without-lowest-requires-3 Inv-loop μ-loop
-without-lowest-requires-3 c κs = search needs
-
-without-requires : tie.Need-without-requires Inv-loop μ-loop
-without-requires c κs = search needs
 
 dropped-requires-2 : tie.Need-dropped-requires-2 Inv-loop μ-loop
 dropped-requires-2 c κs = c .before .before .before .before .loop .inv .0
@@ -64,15 +43,15 @@ needed-spec =
     (tie.spec
     Inv-loop
     μ-loop
-    atoms-requires
-    without-lowest-requires
+    (λ c κs. search needs)
+    (λ c κs. search needs)
     dropped-requires
-    atoms-requires-2
-    without-lowest-requires-2
+    (λ c κs. search needs)
+    (λ c κs. search needs)
     loop-holds
-    is-empty-requires
-    without-lowest-requires-3
-    without-requires
+    (λ c κs. search needs)
+    (λ c κs. search needs)
+    (λ c κs. search needs)
     dropped-requires-2
     loop-less
     loop-again

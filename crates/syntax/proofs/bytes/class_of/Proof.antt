@@ -33,12 +33,9 @@ rule : (b : ℕ) → b < 256 → getD table b 0 ≡ codeOf (classOf b)
 unfolding table right classOf codeOf
 rule b h = eqb→eq (getD table b 0) (codeOf (classOf b)) (at right table tt b h)
 
-array-read-result : tie.Need-array-read-result
-array-read-result c = search needs
-
 returns : tie.Need-returns
 unfolding table
 returns c = rule (c .args .b) (search needs)
 
 pub class-of-spec : {M : Type 1} → statement M
-class-of-spec = tie.close (tie.spec array-read-result returns)
+class-of-spec = tie.close (tie.spec (λ c. search needs) returns)

@@ -6,9 +6,6 @@ use Rattle.syntax.proofs.Class.{leaf-letter}
 use Rattle.syntax.proofs.bytes.is_leaf.Statement.{statement}
 use Rattle.syntax.proofs.bytes.is_leaf.Tie as tie
 
-is-letter-requires : tie.Need-is-letter-requires
-is-letter-requires c κs = search needs
-
 returns : tie.Need-returns
 unfolding isLeaf
 returns c = rw (c .if1 .taken)
@@ -17,4 +14,4 @@ returns-2 : tie.Need-returns-2
 returns-2 c = c .is-letter .ensures ∙ leaf-letter _ (c .before .if1 .left)
 
 pub is-leaf-spec : {M : Type 1} → statement M
-is-leaf-spec = tie.close (tie.spec is-letter-requires returns returns-2)
+is-leaf-spec = tie.close (tie.spec (λ c κs. search needs) returns returns-2)

@@ -5,20 +5,14 @@ use native.Mathlib.Omega.{arith}
 use Rattle.syntax.proofs.descent.leaf.Statement.{statement}
 use Rattle.syntax.proofs.descent.leaf.Tie as tie
 
-leaf-requires : tie.Need-leaf-requires
-leaf-requires c κs = search needs
-
 returns : tie.Need-returns
 returns c = rw (eq-eqb _ 9 (c .before .if1 .taken)) (c .leaf .ensures)
 
 sub-letter : tie.Need-sub-letter
 sub-letter c = omega (arith, c .before .before .before .pre .0)
 
-leaf-requires-2 : tie.Need-leaf-requires-2
-leaf-requires-2 c κs = search needs
-
 returns-2 : tie.Need-returns-2
 returns-2 c = rw (ne-eqb _ 9 (c .before .before .if1 .left)) (c .leaf2 .ensures)
 
 pub leaf-spec : {M : Type 1} → statement M
-leaf-spec = tie.close (tie.spec leaf-requires returns sub-letter leaf-requires-2 returns-2)
+leaf-spec = tie.close (tie.spec (λ c κs. search needs) returns sub-letter (λ c κs. search needs) returns-2)

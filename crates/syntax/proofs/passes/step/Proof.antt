@@ -11,14 +11,8 @@ returns c = blank-turn (c .before .args .depth) _ (c .before .args .operand) (c 
 returns-2 : tie.Need-returns-2
 returns-2 c = rw (c .before .if2 .taken) (not-turn _ _ (c .if3 .taken))
 
-add-t6 : tie.Need-add-t6
-add-t6 c = search needs
-
 returns-3 : tie.Need-returns-3
 returns-3 c = rw (c .before .before .if2 .taken) (opening-turn _ _ (c .if4 .taken))
-
-is-leaf-requires : tie.Need-is-leaf-requires
-is-leaf-requires c κs = search needs
 
 returns-4 : tie.Need-returns-4
 returns-4 c =
@@ -34,14 +28,8 @@ returns-5 c =
 returns-6 : tie.Need-returns-6
 returns-6 c = rw (c .before .before .if2 .left) (closing-misfit _ _ (c .before .if6 .taken) (c .if7 .taken))
 
-sub-t9 : tie.Need-sub-t9
-sub-t9 c = search needs
-
 returns-7 : tie.Need-returns-7
 returns-7 c = rw (c .before .before .if2 .left) (closing-turn _ _ (c .before .if6 .taken) (c .if7 .left))
-
-is-binary-requires : tie.Need-is-binary-requires
-is-binary-requires c κs = search needs
 
 returns-8 : tie.Need-returns-8
 returns-8 c =
@@ -60,14 +48,14 @@ step-spec =
     (tie.spec
     returns
     returns-2
-    add-t6
+    (λ c. search needs)
     returns-3
-    is-leaf-requires
+    (λ c κs. search needs)
     returns-4
     returns-5
     returns-6
-    sub-t9
+    (λ c. search needs)
     returns-7
-    is-binary-requires
+    (λ c κs. search needs)
     returns-8
     returns-9)

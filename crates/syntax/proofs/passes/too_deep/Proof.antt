@@ -17,39 +17,12 @@ abbrev μ-loop : tie.MeasureT-loop
 loop-holds : tie.Need-loop-holds Inv-loop μ-loop
 loop-holds c = shallow-start _
 
-shared-slice-read-one-if-same : tie.Need-shared-slice-read-one-if-same Inv-loop μ-loop
-shared-slice-read-one-if-same c = search needs
-
-one-if-same-requires : tie.Need-one-if-same-requires Inv-loop μ-loop
-one-if-same-requires c κs = search needs
-
-add-opened : tie.Need-add-opened Inv-loop μ-loop
-add-opened c = search needs
-
-shared-slice-read-one-if-same-2 : tie.Need-shared-slice-read-one-if-same-2 Inv-loop μ-loop
-shared-slice-read-one-if-same-2 c = search needs
-
-one-if-same-requires-2 : tie.Need-one-if-same-requires-2 Inv-loop μ-loop
-one-if-same-requires-2 c κs = search needs
-
-add-closed : tie.Need-add-closed Inv-loop μ-loop
-add-closed c = search needs
-
-add-i : tie.Need-add-i Inv-loop μ-loop
-add-i c = search needs
-
-add-if1 : tie.Need-add-if1 Inv-loop μ-loop
-add-if1 c = search needs
-
 returns : tie.Need-returns Inv-loop μ-loop
 returns c =
     let in-loop = c .before .before .before .before .before in
     let opens = c .before .before .before .one-if-same .ensures in
     let shuts = c .before .one-if-same2 .ensures in
     found-deep _ _ _ _ (in-loop .before .loop .inv) (in-loop .loop-test .taken) _ _ (opens .0) (shuts .0) (opens .1) (shuts .1) (c .if1 .taken)
-
-loop-less : tie.Need-loop-less Inv-loop μ-loop
-loop-less c = search needs
 
 loop-again : tie.Need-loop-again Inv-loop μ-loop
 loop-again c =
@@ -68,15 +41,15 @@ too-deep-spec =
     Inv-loop
     μ-loop
     loop-holds
-    shared-slice-read-one-if-same
-    one-if-same-requires
-    add-opened
-    shared-slice-read-one-if-same-2
-    one-if-same-requires-2
-    add-closed
-    add-i
-    add-if1
+    (λ c. search needs)
+    (λ c κs. search needs)
+    (λ c. search needs)
+    (λ c. search needs)
+    (λ c κs. search needs)
+    (λ c. search needs)
+    (λ c. search needs)
+    (λ c. search needs)
     returns
-    loop-less
+    (λ c. search needs)
     loop-again
     returns-2)

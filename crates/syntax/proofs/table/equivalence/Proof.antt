@@ -5,15 +5,6 @@ use borrow.Author.Needs.{needs}
 use Rattle.syntax.proofs.table.equivalence.Statement.{statement}
 use Rattle.syntax.proofs.table.equivalence.Tie as tie
 
-compound-requires : tie.Need-compound-requires
-compound-requires c κs = search needs
-
-compound-requires-2 : tie.Need-compound-requires-2
-compound-requires-2 c κs = search needs
-
-compound-requires-3 : tie.Need-compound-requires-3
-compound-requires-3 c κs = search needs
-
 returns : tie.Need-returns
 returns c =
     let there = c .before .before .before .compound .ensures in
@@ -23,4 +14,4 @@ returns c =
 
 pub equivalence-spec : {M : Type 1} → statement M
 equivalence-spec =
-    tie.close (tie.spec compound-requires compound-requires-2 compound-requires-3 returns)
+    tie.close (tie.spec (λ c κs. search needs) (λ c κs. search needs) (λ c κs. search needs) returns)

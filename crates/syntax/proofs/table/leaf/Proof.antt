@@ -5,17 +5,11 @@ use borrow.Author.Needs.{needs}
 use Rattle.syntax.proofs.table.leaf.Statement.{statement}
 use Rattle.syntax.proofs.table.leaf.Tie as tie
 
-leaf-at-requires : tie.Need-leaf-at-requires
-leaf-at-requires c κs = search needs
-
 returns : tie.Need-returns
 returns c = (refl, holds-found _ (c .before .before .before .pre) _ _ _ (c .before .before .leaf-at .ensures) (c .if1 .taken))
-
-push-requires : tie.Need-push-requires
-push-requires c κs = search needs
 
 returns-2 : tie.Need-returns-2
 returns-2 c = (refl, rw (c .push .ensures) (holds-new _ (c .before .before .before .before .pre) _ _ _ (c .before .before .before .leaf-at .ensures) (c .before .if1 .left)))
 
 pub leaf-spec : {M : Type 1} → statement M
-leaf-spec = tie.close (tie.spec leaf-at-requires returns push-requires returns-2)
+leaf-spec = tie.close (tie.spec (λ c κs. search needs) returns (λ c κs. search needs) returns-2)

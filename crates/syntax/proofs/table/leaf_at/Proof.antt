@@ -15,29 +15,11 @@ abbrev μ-loop : tie.MeasureT-loop
 loop-holds : tie.Need-loop-holds Inv-loop μ-loop
 loop-holds c = leaf-start _ _
 
-cast-node : tie.Need-cast-node Inv-loop μ-loop
-cast-node c = search needs
-
-mul-node : tie.Need-mul-node Inv-loop μ-loop
-mul-node c = search needs
-
-element-copy-out-node : tie.Need-element-copy-out-node Inv-loop μ-loop
-element-copy-out-node c = search needs
-
-same-leaf-requires : tie.Need-same-leaf-requires Inv-loop μ-loop
-same-leaf-requires c κs = search needs
-
 returns : tie.Need-returns Inv-loop μ-loop
 returns c =
     let in-loop = c .before .before .before in
     let at-loop = in-loop .before in
     row-here _ (at-loop .before .pre) _ _ (at-loop .loop .inv) (in-loop .loop-test .taken) _ _ (c .before .same-leaf .ensures) (c .if1 .taken)
-
-add-i : tie.Need-add-i Inv-loop μ-loop
-add-i c = search needs
-
-loop-less : tie.Need-loop-less Inv-loop μ-loop
-loop-less c = search needs
 
 loop-again : tie.Need-loop-again Inv-loop μ-loop
 loop-again c =
@@ -55,12 +37,12 @@ leaf-at-spec =
     Inv-loop
     μ-loop
     loop-holds
-    cast-node
-    mul-node
-    element-copy-out-node
-    same-leaf-requires
+    (λ c. search needs)
+    (λ c. search needs)
+    (λ c. search needs)
+    (λ c κs. search needs)
     returns
-    add-i
-    loop-less
+    (λ c. search needs)
+    (λ c. search needs)
     loop-again
     returns-2)

@@ -1,0 +1,2 @@
+-- Laws of lists of calls.
+pub mod Calls

@@ -1,0 +1,297 @@
+// Executed cases that no script can say: sessions and verdicts that no call gives, the end of the total, buffers of every length.
+// `stdout` was worked out apart from this code.
+use atoms::AtomSet;
+use certify::Length;
+use libc::STDOUT_FILENO;
+use prover::Flats;
+use prover::Held;
+use prover::Implications;
+use prover::Session;
+use prover::Steps;
+use prover::Verdict;
+
+// The sessions have atoms 0 to 2; this is the set of atom 3.
+const OUTSIDE: u64 = 8;
+
+const MOST_ATOMS: u8 = 64;
+
+// Where the total stays.
+const LAST_TOTAL: u32 = 4294967295;
+
+// What a buffer is filled with; no certificate begins with it.
+const UNWRITTEN: u8 = 238;
+
+fn print(text: &[u8]) {
+    io::write_all(STDOUT_FILENO, text);
+}
+
+fn print_number(text: &[u8], n: usize) {
+    print(text);
+    io::print_decimal(STDOUT_FILENO, n as u64);
+}
+
+fn print_byte(text: &[u8], byte: u8) {
+    print_number(text, byte as usize);
+}
+
+fn print_length(l: Length) {
+    match l {
+        Length::Bytes(n) => print_number(b" ", n),
+        Length::Refused(number) => print_byte(b" refused ", number),
+    }
+}
+
+fn print_verdict(v: Verdict) {
+    match v {
+        Verdict::Valid(steps) => print_number(b" valid by ", steps),
+        Verdict::Refuted(worlds) => print_number(b" refuted by ", worlds),
+        Verdict::Refused(number, place) => {
+            print_byte(b" refused ", number);
+            print_number(b" at ", place);
+        }
+    }
+}
+
+fn print_held(h: Held) {
+    match h {
+        Held::Nothing => print(b", nothing held"),
+        Held::Valid(goal) => print_byte(b", valid held of ", goal),
+        Held::Refuted(goal) => print_byte(b", refuted held of ", goal),
+    }
+}
+
+fn print_session(s: Session) {
+    print_byte(b"; n ", s.n);
+    print_number(b", flats ", s.flats.count);
+    print_number(b", implications ", s.implications.count);
+    print_number(b", steps ", s.steps.count);
+    print_number(b", worlds ", s.worlds.count);
+    print_number(b", total ", s.total as usize);
+    let held = s.held;
+    print_held(held);
+    print(b"\n");
+}
+
+// The first and the last byte.
+fn print_ends(bytes: &[u8]) {
+    let n = bytes.len();
+    if 0 < n {
+        print_byte(b" ", bytes[0]);
+        print_byte(b"..", bytes[n - 1]);
+    }
+}
+
+// What is told and written of a session, and what the buffer then holds.
+fn print_written(s: Session, buffer: &mut [u8]) {
+    print(b": told");
+    print_length(certify::length_told(s));
+    print(b", written");
+    print_length(certify::write(s, buffer));
+    print(b", buffer");
+    print_ends(buffer);
+}
+
+// The answers to a flat clause, an implication and a question, each put to the session that the last one returned; then that session.
+fn print_calls(s: Session) {
+    let c = AtomSet::single(2);
+    let flat = prover::add_flat(s, c, c);
+    let implication = prover::add_implication(flat.session, 2, 2, 2);
+    let answered = prover::ask(implication.session, 1);
+    let verdict = answered.verdict;
+    print_byte(b"; flat ", flat.refusal);
+    print_byte(b", implication ", implication.refusal);
+    print(b", question");
+    print_verdict(verdict);
+    print_session(answered.session);
+}
+
+fn show(what: &[u8], s: Session, buffer: &mut [u8]) {
+    print(what);
+    print_written(s, buffer);
+    print_calls(s);
+}
+
+// Into 90 bytes, more than the certificate has.
+fn tried(what: &[u8], s: Session) {
+    let mut buffer = [UNWRITTEN; 90];
+    show(what, s, &mut buffer);
+}
+
+// Atom 0 gives 1; (0 → 1) → 2. That 2 holds is learned as a step, and 0 is refuted by the world of 2 alone.
+fn asked() -> Session {
+    let opened = prover::open(3);
+    let flat = prover::add_flat(opened.session, AtomSet::single(0), AtomSet::single(1));
+    let implication = prover::add_implication(flat.session, 0, 1, 2);
+    let valid = prover::ask(implication.session, 2);
+    let refuted = prover::ask(valid.session, 0);
+    refuted.session
+}
+
+fn with_held(s: Session, held: Held) -> Session {
+    let flats = s.flats;
+    let implications = s.implications;
+    let steps = s.steps;
+    let worlds = s.worlds;
+    Session {
+        n: s.n,
+        flats,
+        implications,
+        steps,
+        worlds,
+        total: s.total,
+        held,
+    }
+}
+
+fn wrong_flats(s: Session) {
+    let mut t = s;
+    let mut many = s.flats;
+    many.count = ipl::FLATS + 1;
+    t.flats = many;
+    tried(b"513 flat clauses", t);
+    let mut left = s.flats;
+    left.left[0] = OUTSIDE;
+    t.flats = left;
+    tried(b"atom 3 on a left", t);
+    let mut right = s.flats;
+    right.right[atoms::WORDS] = OUTSIDE;
+    t.flats = right;
+    tried(b"atom 3 on a right", t);
+    let mut unused = s.flats;
+    unused.left[2 * atoms::WORDS] = OUTSIDE;
+    t.flats = unused;
+    tried(b"atom 3 in an unused row", t);
+}
+
+fn wrong_implications(s: Session) {
+    let mut t = s;
+    let mut many = s.implications;
+    many.count = ipl::IMPLICATIONS + 1;
+    t.implications = many;
+    tried(b"129 implications", t);
+    let mut a = s.implications;
+    a.a[0] = ipl::BOTTOM;
+    t.implications = a;
+    tried(b"a is 255", t);
+    let mut b = s.implications;
+    b.b[0] = 3;
+    t.implications = b;
+    tried(b"b is 3", t);
+    let mut c = s.implications;
+    c.c[0] = 254;
+    t.implications = c;
+    tried(b"c is 254", t);
+}
+
+fn wrong_steps(s: Session) {
+    let mut t = s;
+    let mut many = s.steps;
+    many.count = ipl::STEPS + 1;
+    t.steps = many;
+    tried(b"513 steps", t);
+    let mut number = s.steps;
+    number.numbers[0] = 1;
+    t.steps = number;
+    tried(b"step of implication 1", t);
+    let mut assumed = s.steps;
+    assumed.assumed[0] = OUTSIDE;
+    t.steps = assumed;
+    tried(b"step assumes atom 3", t);
+}
+
+fn wrong_worlds(s: Session) {
+    let mut t = s;
+    let mut many = s.worlds;
+    many.count = ipl::WORLDS + 1;
+    t.worlds = many;
+    tried(b"257 worlds", t);
+    let mut sets = s.worlds;
+    sets.sets[0] = OUTSIDE;
+    t.worlds = sets;
+    tried(b"world with atom 3", t);
+}
+
+fn atom_counts_and_totals(s: Session) {
+    let mut t = s;
+    t.n = 0;
+    tried(b"n 0", t);
+    t.n = MOST_ATOMS + 1;
+    tried(b"n 65", t);
+    t.n = s.n;
+    t.total = LAST_TOTAL - 1;
+    tried(b"total one short of its end", t);
+    t.total = LAST_TOTAL;
+    tried(b"total at its end", t);
+}
+
+fn verdicts(s: Session) {
+    tried(b"valid of 3", with_held(s, Held::Valid(3)));
+    tried(b"refuted of 254", with_held(s, Held::Refuted(254)));
+    tried(b"refuted of 255", with_held(s, Held::Refuted(ipl::BOTTOM)));
+    let opened = prover::open(3);
+    let empty = opened.session;
+    tried(b"valid without steps", with_held(empty, Held::Valid(1)));
+    tried(
+        b"refuted without worlds",
+        with_held(empty, Held::Refuted(1)),
+    );
+}
+
+// Around the 82 bytes of the certificate; no verdict comes before no room, and a session out of range before both.
+fn buffers(s: Session) {
+    let mut exact = [UNWRITTEN; 82];
+    show(b"exactly long enough", s, &mut exact);
+    let mut short = [UNWRITTEN; 81];
+    show(b"one byte short", s, &mut short);
+    let mut none = [UNWRITTEN; 0];
+    show(b"no byte", s, &mut none);
+    let mut t = with_held(s, Held::Nothing);
+    show(b"no verdict, no byte", t, &mut none);
+    t.n = 0;
+    show(b"n 0, no verdict, no byte", t, &mut none);
+}
+
+// Every table full that a certificate of steps has.
+fn full(s: Session) -> Session {
+    let mut t = with_held(s, Held::Valid(0));
+    let flats = Flats {
+        count: ipl::FLATS,
+        left: [1; ipl::FLATS * atoms::WORDS],
+        right: [1; ipl::FLATS * atoms::WORDS],
+    };
+    t.flats = flats;
+    let implications = Implications {
+        count: ipl::IMPLICATIONS,
+        a: [0; ipl::IMPLICATIONS],
+        b: [ipl::BOTTOM; ipl::IMPLICATIONS],
+        c: [ipl::BOTTOM; ipl::IMPLICATIONS],
+    };
+    t.implications = implications;
+    let steps = Steps {
+        count: ipl::STEPS,
+        numbers: [127; ipl::STEPS],
+        assumed: [1; ipl::STEPS * atoms::WORDS],
+    };
+    t.steps = steps;
+    t
+}
+
+fn longest(s: Session) {
+    let mut exact = [UNWRITTEN; 13223];
+    show(b"full tables", s, &mut exact);
+    let mut short = [UNWRITTEN; 13222];
+    show(b"full tables, one byte short", s, &mut short);
+}
+
+fn main() {
+    let s = asked();
+    tried(b"in range", s);
+    atom_counts_and_totals(s);
+    wrong_flats(s);
+    wrong_implications(s);
+    wrong_steps(s);
+    wrong_worlds(s);
+    verdicts(s);
+    buffers(s);
+    longest(full(s));
+}

@@ -1,0 +1,149 @@
+-- There is room for the answer to every line, so it is written whole.
+use mathlib.Core.Bool.{false, not, cond, _&&_}
+use mathlib.Core.List.{List, _++_}
+use mathlib.Core.Logic.{inl, inr}
+use mathlib.Core.Option.{Option, none, some}
+use mathlib.Core.Path.{_≡_, ap, _∙_}
+use Prim.Native.Nat.{ℕ, _≤_}
+use native.Mathlib.Omega.{arith}
+use lib.Dec.{T, eqb, leb}
+use lib.ListN.{length, take, length-append}
+use lib.Seq.{take-all}
+use Rattle.atoms.proofs.Machine.{limit-small}
+use Rattle.atoms.proofs.Truth.{by-cond}
+use Rattle.ipl.specs.Clause.{bot, Flat, Implication}
+use Rattle.ipl.specs.Range.{flatTable, implicationTable, atomOrBot, flatInRange, implicationInRange}
+use Rattle.ipl.specs.Book.{Book, Call, addFlat, addImplication, question, countInRange, openRefusal, flatsFull, flatRefusal, implicationRefusal, refusal}
+use Rattle.ipl.proofs.Range.{AtomOrBot, atom-or-bot}
+use Rattle.prover.specs.State.{book}
+use Rattle.prover.specs.declared.Session.{Session}
+use Rattle.syntax.specs.Grammar.{Tree}
+use Rattle.syntax.specs.Nodes.{nodes, named}
+use Rattle.syntax.specs.Refusal.{mostNames}
+use Rattle.syntax.specs.Judge as text
+use Rattle.syntax.proofs.Judge.{judge-right}
+use Rattle.clausify.specs.Naming.{textBook, goalOf}
+use Rattle.clausify.proofs.TextBook.{text-book, goal-in-range, text-reached}
+use Rattle.certificate.specs.Format.{bound}
+use Rattle.certificate.proofs.InRange.{range-longest}
+use Rattle.certificate.proofs.Acceptance.{length-bound}
+use Rattle.certify.specs.Held.{Certificate, bytesOf, certificateHeld}
+use Rattle.certify.proofs.DemandTwo.{IsRight}
+use Rattle.text.specs.Text.{ascii, labelled, hex}
+use Rattle.text.specs.Output.{longest, Appends}
+use Rattle.text.proofs.Appending.{begun}
+use Rattle.text.proofs.Hexadecimal.{hex-length}
+use Rattle.text.proofs.Lengths.{labelled-length, refusal-length}
+use Rattle.judgement.proofs.Fitting.{judgement-fits}
+use Rattle.report.proofs.Fitting.{answer-fits, text-refusal-short}
+use Rattle.script.specs.Command.{Command, openSession, readText, callBook, tellLength, writeSheet, checkSheet, Line, silent, command, noCall}
+use Rattle.script.specs.State.{refusedLine, changedLine, textLine, lengthLine, sheetLine, printedCall, printedCommand, printedLine}
+use Rattle.script.specs.Transcript.{mostLines}
+use Rattle.script.specs.Run.{outputRoom}
+use Rattle.script.proofs.Standing.{stateOf, Stands}
+
+abbrev pub Fits : List ℕ → Type 0
+Fits text = length text ≤ outputRoom
+
+pub whole : {T entry exit : List ℕ} {r : ℕ} → Fits T → outputRoom ≤ length entry → Appends T entry 0 exit r → take r exit ≡ T
+whole {T} {r = r} fits room a = let b = begun a in b .same ∙ take-all r T (omega (arith, b .fills, a .size))
+
+-- ---- changes
+
+-- The numbers of refused changes have one digit.
+abbrev Small : ℕ → Type 0
+Small k = k ≤ 8
+
+changed-fits : (k : ℕ) → Small k → Fits (changedLine k)
+unfolding ascii
+changed-fits k h =
+    by-cond Fits (eqb k 0) (ascii "done\n") (refusedLine k)
+    (λ _. omega arith)
+    (λ _. omega (arith, refusal-length false 0 0 k 0 (omega arith) (omega arith)))
+
+open-number : (n : ℕ) → Small (openRefusal n)
+unfolding openRefusal
+open-number n = by-cond Small (countInRange n) 0 5 (λ _. omega arith) (λ _. omega arith)
+
+flat-number : (k : Book) (f : Flat) → Small (flatRefusal k f)
+unfolding flatRefusal
+flat-number k f =
+    by-cond Small (not (flatInRange (k .n) f)) 6 (cond (flatsFull k) 7 0)
+    (λ _. omega arith)
+    (λ _. by-cond Small (flatsFull k) 7 0 (λ _. omega arith) (λ _. omega arith))
+
+implication-number : (k : Book) (i : Implication) → Small (implicationRefusal k i)
+unfolding implicationRefusal
+implication-number k i =
+    let full = leb implicationTable (length (k .implications)) in
+    let no-row = not (eqb (i .b) bot) && flatsFull k in
+    by-cond Small (not (implicationInRange (k .n) i)) 6 (cond no-row 7 (cond full 8 0))
+    (λ _. omega arith)
+    (λ _. by-cond Small no-row 7 (cond full 8 0)
+    (λ _. omega arith)
+    (λ _. by-cond Small full 8 0 (λ _. omega arith) (λ _. omega arith)))
+
+-- ---- texts
+
+goal-small : (t : Tree) → named (nodes t .table) ≤ mostNames → goalOf t ≤ 255
+goal-small t few = go (atom-or-bot (textBook t .n) (goalOf t) in-range)
+  where
+    in-range : T (atomOrBot (textBook t .n) (goalOf t))
+    in-range = rw (ap (λ (k : Book). k .n) (text-book t few)) (goal-in-range t few)
+
+    go : AtomOrBot (textBook t .n) (goalOf t) → goalOf t ≤ 255
+    go (inl below) = omega (arith, text-reached t .well-formed .few, limit-small)
+    go (inr is-bot) = omega arith
+
+text-fits : (s : List ℕ) (j : text.Judgement) → text.Right s j → Fits (textLine j)
+unfolding ascii
+text-fits s (text.refused number place) h = omega (arith, text-refusal-short s number place h)
+text-fits s (text.accepted t) h =
+    let small = goal-small t (omega (arith, h .size-right)) in
+    omega (arith, length-append (labelled "goal " (goalOf t)) (ascii "\n"), labelled-length "goal " 2 (goalOf t) (omega arith))
+
+-- ---- sheets
+
+length-fits : (F X : ℕ) → F ≤ flatTable → X ≤ implicationTable → Fits (lengthLine (bound F X))
+unfolding ascii bound
+length-fits F X f x = omega (arith, length-append (labelled "length " (bound F X)) (ascii "\n"), labelled-length "length " 4 (bound F X) (omega arith))
+
+sheet-fits : (x : Option Certificate) → IsRight x → Fits (sheetLine x)
+unfolding ascii
+sheet-fits none right = omega (arith, refusal-length false 0 0 9 0 (omega arith) (omega arith))
+sheet-fits (some x) right =
+    let digits = hex (bytesOf x) in
+    omega (
+      arith,
+      length-append (ascii "sheet " ++ digits) (ascii "\n"),
+      length-append (ascii "sheet ") digits,
+      hex-length (bytesOf x),
+      length-bound (x .problem) (x .claim) right .0,
+      range-longest (x .problem) (x .claim) (right .range),
+    )
+
+-- ---- every line
+
+module _ (s : Session) (h : Stands s) where
+  call-fits : (c : Call) → Fits (printedCall (stateOf s) c)
+  unfolding refusal longest
+  call-fits (addFlat f) = changed-fits (flatRefusal (book s) f) (flat-number (book s) f)
+  call-fits (addImplication i) = changed-fits (implicationRefusal (book s) i) (implication-number (book s) i)
+  call-fits (question g) = omega (arith, answer-fits (book s) g (s .total) (h .reached))
+
+  command-fits : (c : Command) → Fits (printedCommand (stateOf s) c)
+  unfolding longest
+  command-fits (openSession n) = changed-fits (openRefusal n) (open-number n)
+  command-fits (readText t) = text-fits t (text.judge t) (judge-right t)
+  command-fits (callBook c) = call-fits c
+  command-fits tellLength =
+      let formed = h .reached .well-formed in
+      length-fits (length (book s .flats)) (length (book s .implications)) (formed .flat-count) (formed .implication-count)
+  command-fits writeSheet = sheet-fits (certificateHeld s (s .held)) (h .right)
+  command-fits (checkSheet bytes) = omega (arith, judgement-fits bytes)
+
+  pub line-fits : (number : ℕ) → number ≤ mostLines → (l : Line) → Fits (printedLine (stateOf s) number l)
+  unfolding ascii
+  line-fits number few silent = omega arith
+  line-fits number few (command c) = command-fits c
+  line-fits number few noCall = omega (arith, length-append (labelled "line " number) (ascii " is no call\n"), labelled-length "line " 19 number (omega arith))

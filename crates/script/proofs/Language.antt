@@ -1,0 +1,191 @@
+-- The language of scripts is what `lineOf` reads, and a line is at most one call.
+use mathlib.Core.Bool.{true, false, cond, _||_, true≢false}
+use mathlib.Core.List.{List, [], _∷_, _++_, append-assoc}
+use mathlib.Core.Logic.{_⊎_, inl, inr}
+use mathlib.Core.Option.{Option, none, some, bind}
+use mathlib.Core.Path.{_≡_, refl, sym, ap, _∙_, subst}
+use Prim.Native.Nat.{ℕ, _≤_, _<_}
+use native.Mathlib.Omega.{arith}
+use lib.Dec.{leb}
+use lib.ListN.{length, drop, replicate}
+use borrow.Author.Tests.{eqb-true, leb-true, le-leb}
+use Rattle.atoms.proofs.Truth.{T-or, T-true, T-false, by-cond}
+use Rattle.text.specs.Text.{ascii, hex}
+use Rattle.bytes.specs.Bytes.{indexOf, indexAfter}
+use Rattle.script.specs.Words.{space, split, wordsOf, unindented}
+use Rattle.script.specs.Numbers.{bytesIn}
+use Rattle.script.specs.Command.{Command, Line, silent, readText, tellLength, writeSheet, checkSheet, command, noCall, same, verbOf, argument, end, sheetArgument, commandBy, commandFrom, commandIn, hash, isBlank, isComment, longestCall, orNone, lineOf}
+use Rattle.script.specs.Language.{Says, opens, reads, reads-nothing, adds-flat, adds-implication, asks, tells, writes, checks, checks-nothing, CallsAreSaid, OneCall}
+use Rattle.script.specs.declared.reading.Verb.{Verb}
+use Rattle.script.specs.declared.reading.Verb.the-variants.{Open, Text, Flat, Implication, Ask, Length, Sheet, Check, Other}
+use Rattle.script.proofs.Splitting.{words-unindented, first-word, indented, unindented-more, first, behind-first, second-word}
+use Rattle.script.proofs.Hexadecimal.{hex-bytes, bytes-hex}
+use Rattle.script.proofs.Verbs.{Named, named}
+use Rattle.script.proofs.Silence.{not-blank}
+
+-- ---- from a row to the definition
+
+by-unindented : (line u : List ℕ) → unindented line ≡ u → commandIn line ≡ commandFrom u (wordsOf u)
+unfolding commandIn
+by-unindented line u e = rw (← words-unindented line, e)
+
+said-is : {line : List ℕ} {c : Command} → Says line c → commandIn line ≡ some c
+unfolding commandIn verbOf same ascii bind wordsOf split unindented
+said-is (opens N n e f) = rw (e, f)
+said-is {line} (reads spaces formula e) =
+    let u : List ℕ = ascii "text " ++ formula in
+    by-unindented line u (ap unindented (e ∙ append-assoc (replicate spaces space) (ascii "text ") formula) ∙ unindented-more spaces u)
+said-is {line} (reads-nothing spaces e) = by-unindented line (ascii "text") (ap unindented e ∙ unindented-more spaces (ascii "text"))
+said-is (adds-flat L R left right e f g) = rw (e, f, g)
+said-is (adds-implication A B C a b c e f g h) = rw (e, f, g, h)
+said-is (asks G g e f) = rw (e, f)
+said-is (tells e) = rw e
+said-is (writes e) = rw e
+said-is (checks b bytes h e) = rw (e, hex-bytes (b ∷ bytes) h)
+said-is (checks-nothing e) = rw e
+
+-- ---- from the definition to a row
+
+never : {c : Command} → none ≡ some c → ⊥
+never e = let z : _≡_ {A = ℕ} 0 1 = cc in omega arith
+
+-- An argument that is taken.
+record Argued (number : List ℕ → Option ℕ) (further : ℕ → List (List ℕ) → Option Command) (ws : List (List ℕ)) (c : Command) : Type 0 where
+  word : List ℕ
+  rest : List (List ℕ)
+  value : ℕ
+  words-are : ws ≡ word ∷ rest
+  number-is : number word ≡ some value
+  further-is : further value rest ≡ some c
+
+argued : (number : List ℕ → Option ℕ) (further : ℕ → List (List ℕ) → Option Command) (ws : List (List ℕ)) (c : Command)
+    → argument number further ws ≡ some c → Argued number further ws c
+unfolding bind
+argued number further [] c e = absurd (never e)
+argued number further (w ∷ ws) c e = go (number w) refl e
+  where
+    go : (o : Option ℕ) → number w ≡ o → bind o (λ x. further x ws) ≡ some c → Argued number further (w ∷ ws) c
+    go none f e = absurd (never e)
+    go (some x) f e = record { word = w; rest = ws; value = x; words-are = refl; number-is = f; further-is = e }
+
+ended : (d : Command) (ws : List (List ℕ)) (c : Command) → end d ws ≡ some c → (ws ≡ []) × (d ≡ c)
+ended d [] c e = (refl, cc)
+ended d (w ∷ ws) c e = absurd (never e)
+
+module _ (line : List ℕ) where
+  -- What follows the spaces and the word is empty or begins with a space.
+  said-text : (rest : List ℕ) → unindented line ≡ ascii "text" ++ rest → (rest ≡ []) ⊎ ((more : List ℕ) × (rest ≡ space ∷ more))
+      → Says line (readText (drop 1 rest))
+  unfolding ascii
+  said-text rest u s =
+      let k = indented line in
+      elim s [
+        | inl e ↦ rw e (reads-nothing (k .0) (k .1 ∙ ap (λ (l : List ℕ). replicate (k .0) space ++ l) (u ∙ rw e)))
+        | inr p ↦
+            rw (p .1)
+            (reads (k .0) (p .0)
+            (k .1
+            ∙ ap (λ (l : List ℕ). replicate (k .0) space ++ l) (u ∙ rw (p .1))
+            ∙ sym (append-assoc (replicate (k .0) space) (ascii "text ") (p .0))))
+      ]
+
+  said-sheet : (ws : List (List ℕ)) (c : Command) → wordsOf line ≡ ascii "check" ∷ ws → sheetArgument ws ≡ some c → Says line c
+  unfolding bind hex
+  said-sheet [] c e h = subst (Says line) (cc) (checks-nothing e)
+  said-sheet (w ∷ ws) c e h = go (bytesIn w) refl h
+    where
+      go : (o : Option (List ℕ)) → bytesIn w ≡ o → bind o (λ bytes. end (checkSheet bytes) ws) ≡ some c → Says line c
+      go none f g = absurd (never g)
+      go (some []) f g = let none : length w ≡ 0 = ap length (bytes-hex w [] f .0) in absurd (omega (arith, second-word line (ascii "check") w ws e))
+      go (some (b ∷ bytes)) f g =
+          let z = ended (checkSheet (b ∷ bytes)) ws c g in
+          let d = bytes-hex w (b ∷ bytes) f in
+          subst (Says line) (z .1) (checks b bytes (d .1) (cc))
+
+  said-by : (b : Verb) (verb : List ℕ) (ws : List (List ℕ)) (c : Command) → wordsOf line ≡ verb ∷ ws → Named verb b
+      → commandBy b (drop (length verb) (unindented line)) ws ≡ some c → Says line c
+  said-by Open verb ws c e v h =
+      let n = argued _ _ ws c h in
+      let z = ended _ (n .rest) c (n .further-is) in
+      subst (Says line) (z .1) (opens (n .word) (n .value) (cc) (n .number-is))
+  said-by Text verb ws c e v h =
+      let f = first line verb ws e in
+      let here : readText (drop 1 (f .rest)) ≡ c = ap (λ (l : List ℕ). readText (drop 1 l)) (sym (behind-first f)) ∙ cc in
+      subst (Says line) here (said-text (f .rest) (f .is ∙ ap (λ (l : List ℕ). l ++ f .rest) v) (f .starts))
+  said-by Flat verb ws c e v h =
+      let left = argued _ _ ws c h in
+      let right = argued _ _ (left .rest) c (left .further-is) in
+      let z = ended _ (right .rest) c (right .further-is) in
+      subst (Says line) (z .1) (adds-flat (left .word) (right .word) (left .value) (right .value) (cc) (left .number-is) (right .number-is))
+  said-by Implication verb ws c e v h =
+      let x = argued _ _ ws c h in
+      let y = argued _ _ (x .rest) c (x .further-is) in
+      let z = argued _ _ (y .rest) c (y .further-is) in
+      let last = ended _ (z .rest) c (z .further-is) in
+      subst (Says line) (last .1)
+      (adds-implication (x .word) (y .word) (z .word) (x .value) (y .value) (z .value) (cc) (x .number-is) (y .number-is) (z .number-is))
+  said-by Ask verb ws c e v h =
+      let g = argued _ _ ws c h in
+      let z = ended _ (g .rest) c (g .further-is) in
+      subst (Says line) (z .1) (asks (g .word) (g .value) (cc) (g .number-is))
+  said-by Length verb ws c e v h = let z = ended tellLength ws c h in subst (Says line) (z .1) (tells (cc))
+  said-by Sheet verb ws c e v h = let z = ended writeSheet ws c h in subst (Says line) (z .1) (writes (cc))
+  said-by Check verb ws c e v h = said-sheet ws c (cc) h
+  said-by Other verb ws c e v h = absurd (never h)
+
+  is-said : (c : Command) → commandIn line ≡ some c → Says line c
+  unfolding commandIn
+  is-said c h = go (wordsOf line) refl h
+    where
+      go : (ws : List (List ℕ)) → wordsOf line ≡ ws → commandFrom (unindented line) ws ≡ some c → Says line c
+      go [] e h = absurd (never h)
+      go (verb ∷ ws) e h = said-by (verbOf verb) verb ws c e (named verb) h
+
+-- ---- silent lines are no calls
+
+blank-is-none : (line : List ℕ) → isBlank line ≡ true → commandIn line ≡ none
+unfolding wordsOf split
+blank-is-none line e = by-unindented line [] (go (unindented line) (not-blank line))
+  where
+    go : (u : List ℕ) → (0 < length u → isBlank line ≡ false) → u ≡ []
+    go [] h = refl
+    go (x ∷ u) h = absurd (true≢false (sym e ∙ h (omega arith)))
+
+comment-is-none : (line : List ℕ) → isComment line ≡ true → commandIn line ≡ none
+unfolding unindented indexOf indexAfter verbOf same ascii
+comment-is-none [] e = absurd (true≢false (sym e))
+comment-is-none (b ∷ line) e =
+    let other = first-word (hash ∷ line) (omega arith) in
+    rw (eqb-true b hash e) (by-unindented (hash ∷ line) (hash ∷ line) refl ∙ rw other)
+
+not-silent : (line : List ℕ) (c : Command) → commandIn line ≡ some c → isBlank line || isComment line ≡ false
+not-silent line c e = T-false (isBlank line || isComment line) (λ t. elim (T-or (isBlank line) (isComment line) t) [
+  | inl b ↦ absurd (never (sym (blank-is-none line (T-true (isBlank line) b)) ∙ e))
+  | inr b ↦ absurd (never (sym (comment-is-none line (T-true (isComment line) b)) ∙ e))
+])
+
+-- ---- the theorems
+
+command-is : (o : Option Command) (c : Command) → orNone o ≡ command c → o ≡ some c
+command-is none c e = let z : _≡_ {A = ℕ} 0 1 = cc in absurd (omega arith)
+command-is (some d) c e = cc
+
+read-is-said : (line : List ℕ) (c : Command) → lineOf line ≡ command c → Says line c × (length line ≤ longestCall)
+unfolding lineOf
+read-is-said line c =
+    by-cond Said (isBlank line || isComment line) silent (cond (leb (length line) longestCall) (orNone (commandIn line)) noCall)
+    (λ _ e. let z : _≡_ {A = ℕ} 0 1 = cc in absurd (omega arith))
+    (λ _. by-cond Said (leb (length line) longestCall) (orNone (commandIn line)) noCall
+    (λ short e. (is-said line c (command-is (commandIn line) c e), leb-true (length line) longestCall short))
+    (λ _ e. let z : _≡_ {A = ℕ} 0 1 = cc in absurd (omega arith)))
+  where
+    Said : Line → Type 0
+    Said l = l ≡ command c → Says line c × (length line ≤ longestCall)
+
+pub calls-are-said : CallsAreSaid
+unfolding lineOf
+calls-are-said line c =
+    (read-is-said line c, λ s. rw (not-silent line c (said-is (s .0)), le-leb (length line) longestCall (s .1), said-is (s .0)))
+
+pub one-call : OneCall
+one-call line c d s t = let e = said-is s in let f = said-is t in cc

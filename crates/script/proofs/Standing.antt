@@ -1,0 +1,154 @@
+-- A session is the state of a script: what the contracts make of it, and what is printed, is what the definitions make of the state.
+use mathlib.Core.Bool.{false, cond}
+use mathlib.Core.List.{List}
+use mathlib.Core.Option.{none}
+use mathlib.Core.Path.{_≡_, refl, sym, ap, _∙_, subst}
+use Prim.Native.Nat.{ℕ}
+use native.Mathlib.Decide.{decLe}
+use native.Mathlib.Omega.{arith}
+use lib.Dec.{eqb}
+use Rattle.ipl.specs.Search.{Outcome, valid, refuted, refused, unfinished}
+use Rattle.ipl.specs.Book as B
+use Rattle.ipl.specs.Book.{Book, Call, addFlat, addImplication, question, opened, refusal, taken, answer}
+use Rattle.ipl.proofs.Book.{Reached, opened-reached}
+use Rattle.prover.specs.State.{book}
+use Rattle.prover.specs.Calls.{number, NothingHeld, Opened, Added, Asked, AskedAs}
+use Rattle.prover.specs.Demand as made
+use Rattle.prover.specs.declared.Session.{Session}
+use Rattle.prover.specs.declared.Changed.{Changed}
+use Rattle.prover.specs.declared.Answered.{Answered}
+use Rattle.prover.proofs.DemandThree.{asked-as, call-kept}
+use Rattle.syntax.specs.Refusal.{Refused, line-1, line-2, line-3, line-4}
+use Rattle.syntax.specs.Judge as text
+use Rattle.syntax.proofs.Judge.{judge-right}
+use Rattle.clausify.specs.Calls.{ClausifiedAs}
+use Rattle.clausify.specs.Demand.{bookOf}
+use Rattle.clausify.specs.declared.Clausified.{Clausified}
+use Rattle.clausify.proofs.TextBook.{text-reached}
+use Rattle.certify.specs.Held.{certificateHeld}
+use Rattle.certify.specs.Written.{lengthTold}
+use Rattle.certify.proofs.DemandTwo.{Standing, nothing-stands, added-book, added, called, told-for-book}
+use Rattle.report.specs.Report.{reportBy}
+use Rattle.report.proofs.Printed.{answer-printed}
+use Rattle.script.specs.Command.{Command, openSession, readText, callBook, tellLength, writeSheet, checkSheet, Line, silent, command, noCall}
+use Rattle.script.specs.State.{State, fresh, questionsAfter, next, changedLine, textLine, lengthLine, printedCall, printedCommand, printedLine, nextLine}
+use Rattle.script.specs.Answer.{clausifiedLine, toldLine, heldLine, CallDone, CommandDone, LineDone}
+
+-- The state that a session is.
+abbrev pub stateOf : Session → State
+stateOf s = record { book = book s; questions = s .total; answered = certificateHeld s (s .held) }
+
+-- It is in range, its book is reached, and what it holds is right.
+abbrev pub Stands : Session → Type 0
+Stands s = Standing s (certificateHeld s (s .held))
+
+-- A text was printed, and the session, which stands, is now the state σ.
+pub record Reaches (σ : State) (text : List ℕ) (s : Session) (printed : List ℕ) : Type 0 where
+  pub prints : printed ≡ text
+  pub state : stateOf s ≡ σ
+  pub stands : Stands s
+
+reaches : {σ : State} {text : List ℕ} {s : Session} {printed : List ℕ} → printed ≡ text → book s ≡ σ .book → s .total ≡ σ .questions → Standing s (σ .answered)
+    → Reaches σ text s printed
+reaches {s = s} p b q h = record {
+  prints = p;
+  state = λ i. record { book = b i; questions = q i; answered = h .held-is i };
+  stands = subst (Standing s) (sym (h .held-is)) h;
+}
+
+-- The same of an equal session and equal bytes.
+pub same-reached : {σ : State} {text : List ℕ} {s u : Session} {printed answered : List ℕ} → s ≡ u → printed ≡ answered → Reaches σ text u answered → Reaches σ text s printed
+same-reached e p r = record { prints = p ∙ r .prints; state = ap stateOf e ∙ r .state; stands = subst Stands (sym e) (r .stands) }
+
+-- ---- new sessions
+
+fresh-reached : {k : Book} {text printed : List ℕ} {s : Session} → Reached k → book s ≡ k → NothingHeld 0 s → printed ≡ text → Reaches (fresh k) text s printed
+fresh-reached {s = s} reached e nothing p = reaches p e (nothing .same-total) (nothing-stands s (subst Reached (sym e) reached) nothing)
+
+pub opened-reaches : (n : ℕ) (r : Changed) → Opened n r → Reaches (fresh (opened n)) (changedLine (B.openRefusal n)) (r .session) (changedLine (r .refusal))
+opened-reaches n r o = fresh-reached (opened-reached n) (o .holds) (o .nothing) (ap changedLine (o .refused))
+
+-- The number of a text's refusal is not 0.
+number-told : {t : List ℕ} {number place : ℕ} → Refused t number place → eqb number 0 ≡ false
+number-told (line-1 a) = refl
+number-told (line-2 a b) = refl
+number-told (line-3 a b c d) = refl
+number-told (line-4 a b c d) = refl
+
+module _ (t : List ℕ) (r : Clausified) where
+  clausified-line : (j : text.Judgement) → text.Right t j → ClausifiedAs j r → clausifiedLine (r .refusal) (r .place) (r .goal) ≡ textLine j
+  clausified-line (text.refused number place) right h = rw (h .0, h .1, number-told right)
+  clausified-line (text.accepted tree) right h = rw (h .0, h .2 .goal)
+
+  text-reaches : (j : text.Judgement) → text.Right t j → ClausifiedAs j r
+      → Reaches (fresh (bookOf j)) (textLine j) (r .session) (clausifiedLine (r .refusal) (r .place) (r .goal))
+  text-reaches (text.refused number place) right h =
+      fresh-reached (opened-reached 1) (h .2 .clauses) (h .2 .nothing) (clausified-line (text.refused number place) right h)
+  text-reaches (text.accepted tree) right h = fresh-reached (text-reached tree) (h .2 .clauses) (h .2 .nothing) (clausified-line (text.accepted tree) right h)
+
+-- ---- calls of the book
+
+added-total : (s : Session) (k : ℕ) (b : Book) (r : Changed) → Added s k b r → r .session .total ≡ s .total
+added-total s k b r a = elim (decLe k 0) [
+  | yes l ↦ a .nothing (omega arith) .same-total
+  | no l ↦ ap (λ (u : Session). u .total) (a .unchanged (λ e. omega arith))
+]
+
+asked-total : (s : Session) (g : ℕ) (r : Answered) (o : Outcome) → AskedAs s g o r → r .session .total ≡ questionsAfter (s .total) o
+asked-total s g r (valid end) a = a .1 .total
+asked-total s g r (refuted end) a = a .1 .total
+asked-total s g r (refused number) a = ap (λ (u : Session). u .total) (a .1)
+asked-total s g r unfinished a = absurd (a .0)
+
+module _ (s : Session) (h : Stands s) where
+  abbrev afterAddition : Call → State
+  afterAddition c = record { book = B.next (book s) c; questions = s .total; answered = cond (eqb (refusal (book s) c) 0) none (certificateHeld s (s .held)) }
+
+  added-reaches : (c : Call) (r : Changed) → Added s (number s (refusal (book s) c)) (taken (book s) c) r
+      → Reaches (afterAddition c) (changedLine (refusal (book s) c)) (r .session) (changedLine (r .refusal))
+  added-reaches c r a =
+      let x = certificateHeld s (s .held) in
+      reaches (ap changedLine (a .refused) ∙ rw (h .in-range)) (added-book s x h c r a) (added-total s (number s (refusal (book s) c)) (taken (book s) c) r a)
+      (added s x h c r a)
+
+  asked-reaches : (g : ℕ) (r : Answered) → Asked s g r
+      → Reaches (next (stateOf s) (callBook (question g))) (printedCall (stateOf s) (question g)) (r .session) (reportBy (r .verdict) (r .session))
+  asked-reaches g r a =
+      let asked = asked-as s (h .in-range) (h .reached) g r a in
+      let kept = call-kept s (h .in-range) (h .reached) (made.question g) r a in
+      reaches (answer-printed s g r (answer (book s) g) asked) (kept .0) (asked-total s g r (answer (book s) g) asked)
+      (called s (certificateHeld s (s .held)) h (made.question g) r a)
+
+  -- ---- sheets
+
+  told-line : toldLine (lengthTold s) ≡ printedCommand (stateOf s) tellLength
+  told-line = rw (h .in-range) (ap lengthLine (sym (told-for-book s)))
+
+  held-line : heldLine s ≡ printedCommand (stateOf s) writeSheet
+  held-line = rw (h .in-range)
+
+  -- ---- every line
+
+  module _ {after : Session} {printed : List ℕ} where
+    call-reaches : (c : Call) → CallDone s c after printed → Reaches (next (stateOf s) (callBook c)) (printedCall (stateOf s) c) after printed
+    unfolding refusal
+    call-reaches (addFlat f) (r, a, e, p) = same-reached e p (added-reaches (addFlat f) r a)
+    call-reaches (addImplication i) (r, a, e, p) = same-reached e p (added-reaches (addImplication i) r a)
+    call-reaches (question g) (r, a, e, p) = same-reached e p (asked-reaches g r a)
+
+    unchanged : {text : List ℕ} → after ≡ s → printed ≡ text → Reaches (stateOf s) text after printed
+    unchanged e p = record { prints = p; state = ap stateOf e; stands = subst Stands (sym e) h }
+
+    command-reaches : (c : Command) → CommandDone s c after printed → Reaches (next (stateOf s) c) (printedCommand (stateOf s) c) after printed
+    command-reaches (openSession n) (r, o, e, p) = same-reached e p (opened-reaches n r o)
+    command-reaches (readText t) (r, d, e, p) = same-reached e p (text-reaches t r (text.judge t) (judge-right t) d)
+    command-reaches (callBook c) d = call-reaches c d
+    command-reaches tellLength (e, p) = unchanged e (p ∙ told-line)
+    command-reaches writeSheet (e, p) = unchanged e (p ∙ held-line)
+    command-reaches (checkSheet bytes) (e, p) = unchanged e p
+
+    pub line-reaches : (number : ℕ) (l : Line) → LineDone s number l after printed
+        → Reaches (nextLine (stateOf s) l) (printedLine (stateOf s) number l) after printed
+    line-reaches number silent (e, p) = unchanged e p
+    line-reaches number (command c) d = command-reaches c d
+    line-reaches number noCall (e, p) = unchanged e p

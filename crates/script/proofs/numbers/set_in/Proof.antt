@@ -1,0 +1,59 @@
+-- The number of the digits passed.
+use mathlib.Core.Path.{sym, ap, _∙_}
+use Prim.Native.Nat.{_-_, _^_}
+use lib.ListN.{length}
+use lib.Pow.{pow-pos}
+use borrow.Author.Needs.{needs}
+use native.Mathlib.Omega.{arith}
+use Rattle.atoms.specs.Sets.{limit}
+use Rattle.atoms.specs.Words.{num}
+use Rattle.atoms.proofs.Machine.{num-empty}
+use Rattle.script.specs.Places.{setOf}
+use Rattle.script.proofs.Values.{Passed, none-passed, no-digit, next-digit, all-passed}
+use Rattle.script.proofs.numbers.set_in.Statement.{statement}
+use Rattle.script.proofs.numbers.set_in.Tie as tie
+
+abbrev Inv-loop : tie.InvT-loop
+Inv-loop word set₀ i₀ set i = Passed (2 ^ limit) word i (num set)
+
+abbrev μ-loop : tie.MeasureT-loop
+μ-loop word set₀ i₀ set i = length word - i
+
+loop-holds : tie.Need-loop-holds Inv-loop μ-loop
+loop-holds c = rw num-empty (none-passed (2 ^ limit) _ (pow-pos limit))
+
+returns : tie.Need-returns Inv-loop μ-loop
+returns c =
+    let call = c .before .before in
+    no-digit (call .before .before .before .loop .inv) (omega arith) (sym (ap setOf (c .enum-told .given .1)) ∙ call .set-with .ensures)
+
+add-i : tie.Need-add-i Inv-loop μ-loop
+add-i c = omega arith
+
+loop-less : tie.Need-loop-less Inv-loop μ-loop
+loop-less c = omega arith
+
+loop-again : tie.Need-loop-again Inv-loop μ-loop
+loop-again c =
+    let call = c .before .before .before in
+    next-digit (call .before .before .before .loop .inv) (omega arith) _ (sym (ap setOf (c .before .longer .given .1)) ∙ call .set-with .ensures)
+
+returns-2 : tie.Need-returns-2 Inv-loop μ-loop
+returns-2 c = all-passed (c .before .loop .inv) (omega arith)
+
+pub set-in-spec : {M : Type 1} → statement M
+set-in-spec =
+    tie.close
+    (tie.spec
+    Inv-loop
+    μ-loop
+    loop-holds
+    (λ c. search needs)
+    (λ c κs. search needs)
+    (λ c. search needs)
+    (λ c. search needs)
+    returns
+    add-i
+    loop-less
+    loop-again
+    returns-2)

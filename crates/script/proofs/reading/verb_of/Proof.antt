@@ -1,0 +1,92 @@
+-- By its name.
+use mathlib.Core.Path.{sym, ap}
+use borrow.Author.Needs.{needs}
+use Rattle.text.specs.Text.{ascii}
+use Rattle.script.specs.Command.{same, verbOf}
+use Rattle.script.proofs.Verbs.{unlike}
+use Rattle.script.proofs.reading.verb_of.Statement.{statement}
+use Rattle.script.proofs.reading.verb_of.Tie as tie
+
+returns : tie.Need-returns
+unfolding verbOf same ascii
+returns c = ap verbOf (sym (c .before .same .ensures .0 (c .if1 .taken)))
+
+returns-2 : tie.Need-returns-2
+unfolding verbOf same ascii
+returns-2 c = ap verbOf (sym (c .before .same2 .ensures .0 (c .if2 .taken)))
+
+returns-3 : tie.Need-returns-3
+unfolding verbOf same ascii
+returns-3 c = ap verbOf (sym (c .before .same3 .ensures .0 (c .if3 .taken)))
+
+returns-4 : tie.Need-returns-4
+unfolding verbOf same ascii
+returns-4 c = ap verbOf (sym (c .before .same4 .ensures .0 (c .if4 .taken)))
+
+returns-5 : tie.Need-returns-5
+unfolding verbOf same ascii
+returns-5 c = ap verbOf (sym (c .before .same5 .ensures .0 (c .if5 .taken)))
+
+returns-6 : tie.Need-returns-6
+unfolding verbOf same ascii
+returns-6 c = ap verbOf (sym (c .before .same6 .ensures .0 (c .if6 .taken)))
+
+returns-7 : tie.Need-returns-7
+unfolding verbOf same ascii
+returns-7 c = ap verbOf (sym (c .before .same7 .ensures .0 (c .if7 .taken)))
+
+returns-8 : tie.Need-returns-8
+unfolding verbOf same ascii
+returns-8 c = ap verbOf (sym (c .before .same8 .ensures .0 (c .if8 .taken)))
+
+returns-9 : tie.Need-returns-9
+unfolding verbOf ascii
+returns-9 c =
+    let t8 = c in
+    let t7 = t8 .before .before .before in
+    let t6 = t7 .before .before .before in
+    let t5 = t6 .before .before .before in
+    let t4 = t5 .before .before .before in
+    let t3 = t4 .before .before .before in
+    let t2 = t3 .before .before .before in
+    let t1 = t2 .before .before .before in
+    rw (
+      unlike _ _ _ (t1 .before .same .ensures .1) (t1 .if1 .left),
+      unlike _ _ _ (t2 .before .same2 .ensures .1) (t2 .if2 .left),
+      unlike _ _ _ (t3 .before .same3 .ensures .1) (t3 .if3 .left),
+      unlike _ _ _ (t4 .before .same4 .ensures .1) (t4 .if4 .left),
+      unlike _ _ _ (t5 .before .same5 .ensures .1) (t5 .if5 .left),
+      unlike _ _ _ (t6 .before .same6 .ensures .1) (t6 .if6 .left),
+      unlike _ _ _ (t7 .before .same7 .ensures .1) (t7 .if7 .left),
+      unlike _ _ _ (t8 .before .same8 .ensures .1) (t8 .if8 .left),
+    )
+
+pub verb-of-spec : {M : Type 1} → statement M
+verb-of-spec =
+    tie.close
+    (tie.spec
+    (λ c. search needs)
+    (λ c κs. search needs)
+    returns
+    (λ c. search needs)
+    (λ c κs. search needs)
+    returns-2
+    (λ c. search needs)
+    (λ c κs. search needs)
+    returns-3
+    (λ c. search needs)
+    (λ c κs. search needs)
+    returns-4
+    (λ c. search needs)
+    (λ c κs. search needs)
+    returns-5
+    (λ c. search needs)
+    (λ c κs. search needs)
+    returns-6
+    (λ c. search needs)
+    (λ c κs. search needs)
+    returns-7
+    (λ c. search needs)
+    (λ c κs. search needs)
+    returns-8
+    returns-9)

@@ -1,0 +1,69 @@
+-- The contract of the answer to a line, of any session: the next session and what is printed, through the contracts of the calls.
+use mathlib.Core.Bool.{Bool, true, false, cond}
+use mathlib.Core.List.{List, []}
+use mathlib.Core.Path.{_≡_}
+use Prim.Native.Nat.{ℕ}
+use lib.Dec.{eqb}
+use Rattle.ipl.specs.Book.{Call, addFlat, addImplication, question, taken}
+use Rattle.prover.specs.State.{book}
+use Rattle.prover.specs.InRange.{inRange}
+use Rattle.prover.specs.Calls.{flatNumber, implicationNumber, Opened, Added, Asked}
+use Rattle.prover.specs.declared.Session.{Session}
+use Rattle.prover.specs.declared.Changed.{Changed}
+use Rattle.prover.specs.declared.Answered.{Answered}
+use Rattle.syntax.specs.Judge as text
+use Rattle.clausify.specs.Calls.{ClausifiedAs}
+use Rattle.clausify.specs.declared.Clausified.{Clausified}
+use Rattle.certificate.specs.Judge as sheets
+use Rattle.certify.specs.Held.{certificateHeld}
+use Rattle.certify.specs.Written.{lengthTold}
+use Rattle.certify.specs.declared.Length.{Length}
+use Rattle.certify.specs.declared.Length.the-variants.{Bytes, Refused}
+use Rattle.text.specs.Output.{Appends}
+use Rattle.judgement.specs.Report.{checkReport}
+use Rattle.report.specs.Report.{textRefusal, reportBy}
+use Rattle.script.specs.Command.{Command, openSession, readText, callBook, tellLength, writeSheet, checkSheet, Line, silent, command, noCall}
+use Rattle.script.specs.declared.answers.Answer.{Answer}
+use Rattle.script.specs.State.{refusedLine, changedLine, goalLine, lengthLine, sheetLine, noCallLine}
+
+-- What is printed of the answers of the calls.
+abbrev pub clausifiedLine : ℕ → ℕ → ℕ → List ℕ
+clausifiedLine refusal place goal = cond (eqb refusal 0) (goalLine goal) (textRefusal refusal place)
+
+abbrev pub toldLine : Length → List ℕ
+toldLine (Bytes size) = lengthLine size
+toldLine (Refused number) = refusedLine number
+
+-- Of the sheet of a session; 5 for one out of range.
+abbrev pub heldLine : Session → List ℕ
+heldLine s = cond (inRange s) (sheetLine (certificateHeld s (s .held))) (refusedLine 5)
+
+-- The call's own contract holds of some answer, the script goes on with its session, and this is printed of it.
+abbrev pub CallDone : Session → Call → Session → List ℕ → Type 0
+CallDone s (addFlat f) after printed =
+    (r : Changed) × Added s (flatNumber s f) (taken (book s) (addFlat f)) r × (after ≡ r .session) × (printed ≡ changedLine (r .refusal))
+CallDone s (addImplication i) after printed =
+    (r : Changed) × Added s (implicationNumber s i) (taken (book s) (addImplication i)) r × (after ≡ r .session) × (printed ≡ changedLine (r .refusal))
+CallDone s (question g) after printed = (r : Answered) × Asked s g r × (after ≡ r .session) × (printed ≡ reportBy (r .verdict) (r .session))
+
+abbrev pub CommandDone : Session → Command → Session → List ℕ → Type 0
+CommandDone s (openSession n) after printed = (r : Changed) × Opened n r × (after ≡ r .session) × (printed ≡ changedLine (r .refusal))
+CommandDone s (readText t) after printed = (r : Clausified) × ClausifiedAs (text.judge t) r × (after ≡ r .session) × (printed ≡ clausifiedLine (r .refusal) (r .place) (r .goal))
+CommandDone s (callBook c) after printed = CallDone s c after printed
+CommandDone s tellLength after printed = (after ≡ s) × (printed ≡ toldLine (lengthTold s))
+CommandDone s writeSheet after printed = (after ≡ s) × (printed ≡ heldLine s)
+CommandDone s (checkSheet bytes) after printed = (after ≡ s) × (printed ≡ checkReport (sheets.judge bytes))
+
+-- "A line that is no call .. changes nothing."
+abbrev pub LineDone : Session → ℕ → Line → Session → List ℕ → Type 0
+LineDone s number silent after printed = (after ≡ s) × (printed ≡ [])
+LineDone s number (command c) after printed = CommandDone s c after printed
+LineDone s number noCall after printed = (after ≡ s) × (printed ≡ noCallLine number)
+
+-- What was done is written at the start of the output, as much of it as there is room for.
+abbrev pub Writes : (Session → List ℕ → Type 0) → List ℕ → List ℕ → Answer → Type 0
+Writes Done entry exit r = (printed : List ℕ) × Done (r .session) printed × Appends printed entry 0 exit (r .length)
+
+-- How many bytes of a line are kept: one more than a call has, which tells that it is longer.
+abbrev pub lineRoom : ℕ
+lineRoom = 32769

@@ -1,0 +1,113 @@
+-- What a script has come to, and what each call makes of it and prints: through the book.
+use mathlib.Core.Bool.{false, cond}
+use mathlib.Core.List.{List, [], _++_}
+use mathlib.Core.Option.{Option, none, some}
+use Prim.Native.Nat.{ℕ}
+use lib.Dec.{eqb}
+use lib.ListN.{length}
+use Rattle.ipl.specs.Search.{Outcome, valid, refuted, refused, unfinished}
+use Rattle.ipl.specs.Book as B
+use Rattle.ipl.specs.Book.{Book, Call, addFlat, addImplication, question, opened, openRefusal, refusal, answer}
+use Rattle.prover.specs.Calls.{totalAfter}
+use Rattle.syntax.specs.Judge as text
+use Rattle.clausify.specs.Naming.{goalOf}
+use Rattle.clausify.specs.Demand.{bookOf}
+use Rattle.certificate.specs.Format.{bound}
+use Rattle.certificate.specs.Judge as sheets
+use Rattle.certify.specs.Held.{Certificate, bytesOf}
+use Rattle.certify.specs.Demand.{keeps}
+use Rattle.text.specs.Text as T
+use Rattle.text.specs.Text.{ascii, labelled, hex}
+use Rattle.judgement.specs.Report.{checkReport}
+use Rattle.report.specs.Report.{textRefusal}
+use Rattle.report.specs.Printed.{printedEnd}
+use Rattle.script.specs.Command.{Command, openSession, readText, callBook, tellLength, writeSheet, checkSheet, Line, silent, command, noCall}
+
+-- The book, the total of questions, and the problem and answer of the verdict held.
+pub record State : Type 0 where
+  pub book : Book
+  pub questions : ℕ
+  pub answered : Option Certificate
+
+-- A new session.
+abbrev pub fresh : Book → State
+fresh k = record { book = k; questions = 0; answered = none }
+
+-- ---- what a call makes of it
+
+abbrev pub questionsAfter : ℕ → Outcome → ℕ
+questionsAfter total (valid end) = totalAfter total (end .questions)
+questionsAfter total (refuted end) = totalAfter total (end .questions)
+questionsAfter total (refused number) = total
+questionsAfter total unfinished = total
+
+-- "Only what is asked is counted."
+abbrev pub totalFor : State → Call → ℕ
+totalFor σ (addFlat f) = σ .questions
+totalFor σ (addImplication i) = σ .questions
+totalFor σ (question g) = questionsAfter (σ .questions) (answer (σ .book) g)
+
+abbrev pub next : State → Command → State
+next σ (openSession n) = fresh (opened n)
+next σ (readText s) = fresh (bookOf (text.judge s))
+next σ (callBook c) = record { book = B.next (σ .book) c; questions = totalFor σ c; answered = keeps (σ .book) c (σ .answered) }
+next σ tellLength = σ
+next σ writeSheet = σ
+next σ (checkSheet bytes) = σ
+
+-- ---- what it prints
+
+-- A refusal without a place.
+abbrev pub refusedLine : ℕ → List ℕ
+refusedLine number = T.refusal false number 0
+
+-- "`done` or `refused K`."
+abbrev pub changedLine : ℕ → List ℕ
+changedLine number = cond (eqb number 0) (ascii "done\n") (refusedLine number)
+
+-- "`goal G` .. or `refused K`, `refused 3 at P`."
+abbrev pub goalLine : ℕ → List ℕ
+goalLine g = labelled "goal " g ++ ascii "\n"
+
+abbrev pub textLine : text.Judgement → List ℕ
+textLine (text.refused number place) = textRefusal number place
+textLine (text.accepted t) = goalLine (goalOf t)
+
+-- "`length N`."
+abbrev pub lengthLine : ℕ → List ℕ
+lengthLine size = labelled "length " size ++ ascii "\n"
+
+-- "`sheet HEX`, two small digits a byte; or `refused K`."
+abbrev pub digitsLine : List ℕ → List ℕ
+digitsLine bytes = ascii "sheet " ++ hex bytes ++ ascii "\n"
+
+abbrev pub sheetLine : Option Certificate → List ℕ
+sheetLine none = refusedLine 9
+sheetLine (some x) = digitsLine (bytesOf x)
+
+abbrev pub printedCall : State → Call → List ℕ
+printedCall σ (addFlat f) = changedLine (refusal (σ .book) (addFlat f))
+printedCall σ (addImplication i) = changedLine (refusal (σ .book) (addImplication i))
+printedCall σ (question g) = printedEnd (σ .book .n) (σ .questions) (answer (σ .book) g)
+
+abbrev pub printedCommand : State → Command → List ℕ
+printedCommand σ (openSession n) = changedLine (openRefusal n)
+printedCommand σ (readText s) = textLine (text.judge s)
+printedCommand σ (callBook c) = printedCall σ c
+printedCommand σ tellLength = lengthLine (bound (length (σ .book .flats)) (length (σ .book .implications)))
+printedCommand σ writeSheet = sheetLine (σ .answered)
+printedCommand σ (checkSheet bytes) = checkReport (sheets.judge bytes)
+
+-- "`line K is no call`."
+abbrev pub noCallLine : ℕ → List ℕ
+noCallLine number = labelled "line " number ++ ascii " is no call\n"
+
+abbrev pub printedLine : State → ℕ → Line → List ℕ
+printedLine σ number silent = []
+printedLine σ number (command c) = printedCommand σ c
+printedLine σ number noCall = noCallLine number
+
+abbrev pub nextLine : State → Line → State
+nextLine σ silent = σ
+nextLine σ (command c) = next σ c
+nextLine σ noCall = σ

@@ -1,0 +1,189 @@
+// The answer to a line: what the call makes of the session, and what is printed of it.
+use super::Pending;
+use super::least;
+use super::numbers;
+use super::reading::Call;
+use atoms::AtomSet;
+use certify::Length;
+use prover::Session;
+ghost use mathlib.Core.List.{_++_};
+ghost use Prim.Native.Nat.{_≤_};
+ghost use lib.ListN.{length, drop};
+ghost use Rattle.ipl.specs.Book.{addFlat, addImplication, question};
+ghost use Rattle.prover.specs.Calls.{flatOf};
+ghost use Rattle.certificate.specs.Judge.{judge};
+ghost use Rattle.certify.specs.Written.{lengthTold};
+ghost use Rattle.text.specs.Text.{decimal};
+ghost use Rattle.text.specs.Output.{Appends};
+ghost use Rattle.judgement.specs.Report.{checkReport};
+ghost use Rattle.script.specs.Numbers.{paired};
+ghost use Rattle.script.specs.Command.{openSession, readText, callBook};
+ghost use Rattle.script.specs.Places.{between};
+ghost use Rattle.script.specs.State.{changedLine, digitsLine};
+ghost use Rattle.script.specs.Answer.{clausifiedLine, toldLine, heldLine, CommandDone, Writes, lineRoom};
+ghost use Rattle.script.specs.Pieces.{Answers};
+
+// The session that the script goes on with, and how many bytes were written of what is printed.
+pub struct Answer {
+    pub session: Session,
+    pub length: usize,
+}
+
+// A number between two words.
+fn numbered(output: &mut [u8], label: &[u8], x: u64, rest: &[u8]) -> usize
+    ensures { λ r. ⌜ Appends ((now (label .entry) ++ decimal x) ++ now (rest .entry)) (now (output .entry)) 0 (now (output .exit)) r ⌝ }
+{
+    let end = text::figure(output, 0, label, x);
+    text::word(output, end, rest)
+}
+
+fn write_changed(refusal: u8, output: &mut [u8]) -> usize
+    ensures { λ r. ⌜ Appends (changedLine refusal) (now (output .entry)) 0 (now (output .exit)) r ⌝ }
+{
+    if refusal == 0 {
+        text::word(output, 0, b"done\n")
+    } else {
+        text::refusal(output, refusal, 0, false)
+    }
+}
+
+fn write_clausified(refusal: u8, place: usize, goal: u8, output: &mut [u8]) -> usize
+    ensures { λ r. ⌜ Appends (clausifiedLine refusal place goal) (now (output .entry)) 0 (now (output .exit)) r ⌝ }
+{
+    if refusal == 0 {
+        numbered(output, b"goal ", goal as u64, b"\n")
+    } else {
+        text::refusal(output, refusal, place, refusal == 3)
+    }
+}
+
+fn write_length(s: Session, output: &mut [u8]) -> usize
+    ensures { λ r. ⌜ Appends (toldLine (lengthTold s)) (now (output .entry)) 0 (now (output .exit)) r ⌝ }
+{
+    match certify::length_told(s) {
+        Length::Bytes(size) => numbered(output, b"length ", size as u64, b"\n"),
+        Length::Refused(number) => text::refusal(output, number, 0, false),
+    }
+}
+
+fn write_digits(sheet: &[u8], output: &mut [u8]) -> usize
+    ensures { λ r. ⌜ Appends (digitsLine (now (sheet .entry))) (now (output .entry)) 0 (now (output .exit)) r ⌝ }
+{
+    let a = text::word(output, 0, b"sheet ");
+    let b = text::hex(output, a, sheet);
+    text::word(output, b, b"\n")
+}
+
+// Every sheet fits a draft.
+fn write_sheet(s: Session, output: &mut [u8]) -> usize
+    ensures { λ r. ⌜ Appends (heldLine s) (now (output .entry)) 0 (now (output .exit)) r ⌝ }
+{
+    let mut sheet = [0u8; text::DRAFT];
+    match certify::write(s, &mut sheet) {
+        Length::Bytes(size) => write_digits(&sheet[..size], output),
+        Length::Refused(number) => text::refusal(output, number, 0, false),
+    }
+}
+
+// The digits of the sheet stand between two places of the line; its bytes fit a draft.
+fn check(line: &[u8], start: usize, end: usize, output: &mut [u8]) -> usize
+    requires { ⌜ (start ≤ end) × (end ≤ length (now line)) × (length (now line) ≤ lineRoom) ⌝ }
+    ensures { λ r. ⌜ Appends (checkReport (judge (paired (between start end (now (line .entry)))))) (now (output .entry)) 0 (now (output .exit)) r ⌝ }
+{
+    let mut sheet = [0u8; text::DRAFT];
+    let size = numbers::unhex(&line[start..end], &mut sheet);
+    judgement::write(output, certificate::check(&sheet[..size]))
+}
+
+fn open(n: u8, output: &mut [u8]) -> Answer
+    ensures { λ r. ⌜ ((s : Session) → Writes (CommandDone s (openSession n)) (now (output .entry)) (now (output .exit)) r) ⌝ }
+{
+    let r = prover::open(n);
+    let session = r.session;
+    Answer {
+        session,
+        length: write_changed(r.refusal, output),
+    }
+}
+
+// The text starts at a place of the line.
+fn read_text(line: &[u8], start: usize, output: &mut [u8]) -> Answer
+    requires { ⌜ start ≤ length (now line) ⌝ }
+    ensures { λ r. ⌜ ((s : Session) → Writes (CommandDone s (readText (drop start (now (line .entry))))) (now (output .entry)) (now (output .exit)) r) ⌝ }
+{
+    let r = clausify::clausify(&line[start..]);
+    let session = r.session;
+    Answer {
+        session,
+        length: write_clausified(r.refusal, r.place, r.goal, output),
+    }
+}
+
+fn add_flat(s: Session, left: AtomSet, right: AtomSet, output: &mut [u8]) -> Answer
+    ensures { λ r. ⌜ Writes (CommandDone s (callBook (addFlat (flatOf left right)))) (now (output .entry)) (now (output .exit)) r ⌝ }
+{
+    let r = prover::add_flat(s, left, right);
+    let session = r.session;
+    Answer {
+        session,
+        length: write_changed(r.refusal, output),
+    }
+}
+
+fn add_implication(s: Session, a: u8, b: u8, c: u8, output: &mut [u8]) -> Answer
+    ensures { λ r. ⌜ Writes (CommandDone s (callBook (addImplication (record { a = a; b = b; c = c })))) (now (output .entry)) (now (output .exit)) r ⌝ }
+{
+    let r = prover::add_implication(s, a, b, c);
+    let session = r.session;
+    Answer {
+        session,
+        length: write_changed(r.refusal, output),
+    }
+}
+
+fn ask(s: Session, goal: u8, output: &mut [u8]) -> Answer
+    ensures { λ r. ⌜ Writes (CommandDone s (callBook (question goal))) (now (output .entry)) (now (output .exit)) r ⌝ }
+{
+    let r = prover::ask(s, goal);
+    let session = r.session;
+    let verdict = r.verdict;
+    Answer {
+        session,
+        length: report::write(output, verdict, session),
+    }
+}
+
+// Answers the line of this number: makes its call and writes what is printed of it.
+pub fn answer_line(s: Session, number: u64, line: &[u8], p: Pending, output: &mut [u8]) -> Answer
+    ensures { λ r. ⌜ Answers s number (now (line .entry)) p (now (output .entry)) (now (output .exit)) r ⌝ }
+{
+    let n = least(p.length, least(line.len(), super::LINE));
+    let kept = &line[..n];
+    match super::kept_call(kept, p.blank) {
+        Call::Silent => Answer {
+            session: s,
+            length: 0,
+        },
+        Call::NoCall => Answer {
+            session: s,
+            length: numbered(output, b"line ", number, b" is no call\n"),
+        },
+        Call::Open(n) => open(n, output),
+        Call::Text(start) => read_text(kept, start, output),
+        Call::Flat(left, right) => add_flat(s, left, right, output),
+        Call::Implication(a, b, c) => add_implication(s, a, b, c, output),
+        Call::Ask(goal) => ask(s, goal, output),
+        Call::Length => Answer {
+            session: s,
+            length: write_length(s, output),
+        },
+        Call::Sheet => Answer {
+            session: s,
+            length: write_sheet(s, output),
+        },
+        Call::Check(start, end) => Answer {
+            session: s,
+            length: check(kept, start, end, output),
+        },
+    }
+}

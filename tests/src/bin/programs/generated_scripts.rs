@@ -1,0 +1,74 @@
+//! Scripts too long to be stored.
+
+use outside::report::{certified, settle_text};
+use outside::script::{hexadecimal, MOST_LINE_BYTES};
+use outside::texts::with_every_connective;
+
+/// A script of lines, each after a word.
+fn script(word: &[u8], rest: impl Iterator<Item = Vec<u8>>) -> Vec<u8> {
+    rest.flat_map(|rest| [word, b" ", &rest, b"\n"].concat()).collect()
+}
+
+/// The text with each of these bytes at each place.
+fn changed(text: &[u8], bytes: impl Iterator<Item = u8> + Clone) -> Vec<u8> {
+    let places = (0..text.len()).flat_map(|at| bytes.clone().map(move |byte| (at, byte)));
+    let with = places.map(|(at, byte)| [&text[..at], &[byte], &text[at + 1..]].concat());
+    script(b"text", with)
+}
+
+/// Each byte but the end of a line at each place of a text.
+pub fn every_byte() -> Vec<u8> {
+    changed(&with_every_connective(), (0..=255).filter(|&byte| byte != b'\n'))
+}
+
+/// A byte that no formula has at each place of a text as long as a text may be.
+pub fn wrong_byte() -> Vec<u8> {
+    let text = [&b"p>".repeat(2_047)[..], b"p "].concat();
+    changed(&text, [b'!'].into_iter())
+}
+
+const FORMULAS: [&str; 7] = ["p>p", "p|~p", "((p>q)>p)>p", "0", "0>0", "~~(p|~p)", "(p>q)>~q>~p"];
+
+/// Sheets with each byte raised by one and with its bits turned, cut at every length, and one byte too long.
+pub fn damaged_sheets() -> Vec<u8> {
+    let sheets = FORMULAS.iter().map(|text| certified(&settle_text(text.as_bytes())));
+    let forms = sheets.flat_map(|sheet| {
+        let with = |at: usize, byte: u8| [&sheet[..at], &[byte], &sheet[at + 1..]].concat();
+        let places = 0..sheet.len();
+        let raised = places.clone().map(|at| with(at, sheet[at].wrapping_add(1)));
+        let turned = places.clone().map(|at| with(at, !sheet[at]));
+        let cut = places.map(|length| sheet[..length].to_vec());
+        let longer = [[&sheet[..], &[0]].concat(), sheet.clone()];
+        raised.chain(turned).chain(cut).chain(longer).collect::<Vec<_>>()
+    });
+    script(b"check", forms.map(|sheet| hexadecimal(&sheet).into_bytes()))
+}
+
+/// Lines about as long as a line may be and far longer: calls, comments, blank ones and others.
+pub fn long_lines() -> Vec<u8> {
+    let forms: [(&[u8], u8, &[u8]); 14] = [
+        (b"open ", b'0', b"7"),
+        (b"open 7", b' ', b""),
+        (b"", b' ', b"open 7"),
+        (b"open ", b'1', b""),
+        (b"flat 1", b' ', b"1"),
+        (b"flat 1 ", b'0', b"18446744073709551615"),
+        (b"text ", b' ', b"p"),
+        (b"text ", b'~', b"p"),
+        (b"check ", b'0', b""),
+        (b"check 0", b'0', b""),
+        (b"length", b'h', b""),
+        (b"", b'#', b"length"),
+        (b"", b' ', b""),
+        (b"", b' ', b"#"),
+    ];
+    let most = MOST_LINE_BYTES;
+    let mut script = Vec::new();
+    for (start, filler, end) in forms {
+        for length in [most - 1, most, most + 1, most + 2, 2 * most, 2 * most + 1, 5 * most] {
+            let filling = vec![filler; length - start.len() - end.len()];
+            script.extend([start, &filling, end, b"\nlength\n"].concat());
+        }
+    }
+    script
+}

@@ -1,0 +1,235 @@
+//! Random scripts: calls of every kind over few and over many atoms, refused ones included, and lines that are no calls.
+
+use outside::naming::{single, FALSE};
+use outside::random::{bytes_changed, formula, Random, Style};
+use outside::script::{hexadecimal, Dialogue};
+use outside::texts::damaged;
+use std::collections::BTreeMap;
+
+/// How often each kind of answer was met.
+pub type Tally = BTreeMap<String, usize>;
+
+/// All that a script can meet. Refusal 10 is of lent bytes, and a script lends none.
+pub fn kinds() -> Vec<String> {
+    const WORDS: [&str; 8] = ["nothing", "no call", "done", "goal", "length", "sheet", "valid", "refuted"];
+    let refused = (1..=16).filter(|&number| number != 10).map(|number| format!("refused {number}"));
+    let accepted = ["accepted valid", "accepted refuted"].map(String::from);
+    WORDS.map(String::from).into_iter().chain(accepted).chain(refused).collect()
+}
+
+fn kind(answer: &str) -> String {
+    let words: Vec<&str> = answer.split_ascii_whitespace().collect();
+    match words[..] {
+        [] => "nothing".into(),
+        ["line", ..] => "no call".into(),
+        [word @ ("accepted" | "refused"), which, ..] => format!("{word} {which}"),
+        [word, ..] => word.into(),
+    }
+}
+
+/// Writes a script line by line, and knows the session that the lines have made.
+pub struct Author<'a> {
+    random: &'a mut Random,
+    tally: &'a mut Tally,
+    dialogue: Dialogue,
+    script: Vec<u8>,
+    /// The last sheet that there was.
+    sheet: Vec<u8>,
+}
+
+impl<'a> Author<'a> {
+    pub fn new(random: &'a mut Random, tally: &'a mut Tally) -> Author<'a> {
+        Author { random, tally, dialogue: Dialogue::start(), script: Vec::new(), sheet: Vec::new() }
+    }
+
+    pub fn script(self) -> Vec<u8> {
+        self.script
+    }
+
+    fn write(&mut self, line: impl AsRef<[u8]>) -> String {
+        let answer = self.dialogue.answer(line.as_ref());
+        *self.tally.entry(kind(&answer)).or_default() += 1;
+        self.script.extend(line.as_ref());
+        self.script.push(b'\n');
+        if let Ok(sheet) = self.dialogue.session().sheet() {
+            self.sheet = sheet;
+        }
+        answer
+    }
+
+    /// So many calls on sessions of at most so many atoms, with a new session once in so many calls.
+    pub fn calls(&mut self, count: usize, most_atoms: usize, session_length: usize) {
+        for _ in 0..count {
+            if self.random.one_in(session_length) {
+                self.begin(most_atoms);
+            } else {
+                let line = self.line();
+                self.write(line);
+            }
+        }
+    }
+
+    /// More clauses than the tables hold.
+    pub fn full_tables(&mut self) {
+        let atoms = 1 + self.random.below(4);
+        self.write(format!("open {atoms}"));
+        for _ in 0..700 {
+            let line = match self.random.below(50) {
+                0 => self.question(),
+                1..=12 => self.implication(),
+                _ => self.flat(),
+            };
+            self.write(line);
+        }
+    }
+
+    /// The double negations of so many atoms that the questions mostly need over 256 worlds.
+    pub fn many_worlds(&mut self) {
+        let atoms = 9 + self.random.below(3);
+        self.write(format!("open {atoms}"));
+        for atom in 0..atoms {
+            self.write(format!("implication {atom} {FALSE} {FALSE}"));
+        }
+        self.calls(12, atoms, 20);
+    }
+
+    /// Ten choices of x or y or c, where x and y give z, and (a → b) → c where a and all z give b: each of the 1,024 ways to
+    /// choose is a step.
+    pub fn many_steps(&mut self) {
+        let (z, xy, [a, b, c]) = (0..10, 10..30, [30, 31, 32]);
+        self.write("open 33");
+        for (z, xy) in z.zip(xy.step_by(2)) {
+            let (x, y) = (single(xy), single(xy + 1));
+            self.write(format!("flat 0 {}", x | y | single(c)));
+            self.write(format!("flat {x} {}", single(z)));
+            self.write(format!("flat {y} {}", single(z)));
+        }
+        let all_z = single(10) - 1;
+        self.write(format!("flat {} {}", all_z | single(a), single(b)));
+        self.write(format!("implication {a} {b} {c}"));
+        self.write(format!("ask {c}"));
+        self.calls(6, 33, 20);
+    }
+
+    fn begin(&mut self, most_atoms: usize) {
+        let atoms = match self.random.below(10) {
+            0..=3 => return self.text(),
+            4 => *self.random.pick(&[0, 65, 255]),
+            _ => 1 + self.random.below(most_atoms),
+        };
+        self.write(format!("open {atoms}"));
+    }
+
+    /// A text, and mostly the question for its goal.
+    fn text(&mut self) {
+        let style = Style { letters: 4, connectives: b"&|>>=~", falsehood: 9, spaces: 9, bare: 2 };
+        let text = match self.random.below(12) {
+            0 => vec![b"~("[self.random.below(2)]; 60 + self.random.below(8)],
+            1 => formula(self.random, &style, 60),
+            2 => vec![b' '; [0, 4_096, 4_097][self.random.below(3)]],
+            3..=4 => damaged(self.random),
+            _ => {
+                let size = self.random.below(14);
+                formula(self.random, &style, size)
+            }
+        };
+        let without_ends = text.into_iter().filter(|&byte| byte != b'\n').collect();
+        let answer = self.write([b"text ".to_vec(), without_ends].concat());
+        if let (Some(goal), false) = (answer.strip_prefix("goal "), self.random.one_in(4)) {
+            self.write(format!("ask {}", goal.trim_end()));
+        }
+    }
+
+    fn line(&mut self) -> Vec<u8> {
+        match self.random.below(24) {
+            0..=5 => self.flat().into(),
+            6..=9 => self.implication().into(),
+            10..=14 => self.question().into(),
+            15 => b"length".into(),
+            16 => b"sheet".into(),
+            17..=19 => self.check().into(),
+            20 => self.random.pick(&["", "  ", "# ask 0", "#"]).as_bytes().into(),
+            _ => self.damaged_line(),
+        }
+    }
+
+    fn flat(&mut self) -> String {
+        let (left, right) = (self.set(), self.set());
+        self.words("flat", &[left, right])
+    }
+
+    fn implication(&mut self) -> String {
+        let (a, b, c) = (self.atom(20), self.atom(4), self.atom(6));
+        self.words("implication", &[a, b, c])
+    }
+
+    fn question(&mut self) -> String {
+        let goal = self.atom(5);
+        self.words("ask", &[goal])
+    }
+
+    /// The word and its numbers, seldom with more spaces or zeros than they need.
+    fn words(&mut self, word: &str, numbers: &[u64]) -> String {
+        let mut line = word.to_string();
+        for number in numbers {
+            let spaces = if self.random.one_in(30) { 1 + self.random.below(4) } else { 1 };
+            let digits = if self.random.one_in(30) { self.random.below(40) } else { 0 };
+            line += &format!("{}{number:0digits$}", " ".repeat(spaces));
+        }
+        line
+    }
+
+    /// One to three atoms, seldom none or one that the session has not.
+    fn set(&mut self) -> u64 {
+        let atoms = usize::from(self.dialogue.session().atoms());
+        let count = if self.random.one_in(12) { 0 } else { 1 + self.random.below(3) };
+        let some = (0..count).fold(0, |set, _| set | 1 << self.random.below(atoms));
+        some | if self.random.one_in(60) { 1 << self.random.below(64) } else { 0 }
+    }
+
+    /// An atom, once in so many times false, seldom another number.
+    fn atom(&mut self, falsehood: usize) -> u64 {
+        let atoms = usize::from(self.dialogue.session().atoms());
+        if self.random.one_in(falsehood) {
+            return FALSE.into();
+        }
+        if self.random.one_in(40) {
+            return self.random.below(300) as u64;
+        }
+        self.random.below(atoms) as u64
+    }
+
+    /// The last sheet, whole or damaged.
+    fn check(&mut self) -> String {
+        let length = self.sheet.len();
+        let sheet = match self.random.below(6) {
+            _ if length == 0 => Vec::new(),
+            0 => self.sheet[..self.random.below(length)].to_vec(),
+            1 => [&self.sheet[..], &[0]].concat(),
+            2..=3 => bytes_changed(self.random, &self.sheet),
+            _ => self.sheet.clone(),
+        };
+        format!("check {}", hexadecimal(&sheet))
+    }
+
+    /// A line with a byte changed, put in or taken out, or its end cut off.
+    fn damaged_line(&mut self) -> Vec<u8> {
+        const BYTES: &[u8] = b" 0129aA#-\t\r\x00\x80\xff";
+        let mut line = match self.random.below(4) {
+            0 => self.flat(),
+            1 => self.implication(),
+            2 => self.question(),
+            _ => self.check(),
+        }
+        .into_bytes();
+        let at = self.random.below(line.len());
+        let byte = *self.random.pick(BYTES);
+        match self.random.below(4) {
+            0 => line[at] = byte,
+            1 => line.insert(at, byte),
+            2 => drop(line.remove(at)),
+            _ => line.truncate(at),
+        }
+        line
+    }
+}

@@ -1,0 +1,126 @@
+//! The program `session`: what it answers to stored, generated and random scripts, and in a dialogue.
+
+use crate::generated_scripts::{damaged_sheets, every_byte, long_lines, wrong_byte};
+use crate::random_scripts::{kinds, Author, Tally};
+use crate::{fail, printed};
+use outside::program::{run, run_in_pieces, Conversation, SESSION};
+use outside::random::Random;
+use outside::script::{lines, transcript, Dialogue};
+use outside::stored;
+use std::fs;
+use std::process::Output;
+
+const DIFFERENT: &str = concat!(env!("CARGO_MANIFEST_DIR"), "/../target/outside/different.script");
+
+/// Pieces of so many bytes, for scripts of at most so many.
+const PIECES: [(usize, usize); 3] = [(1, 2_000), (7, 4_000), (4_096, usize::MAX)];
+
+/// What was compared.
+#[derive(Default)]
+pub struct Scripts {
+    pub count: usize,
+    pub lines: usize,
+    /// What the random ones met.
+    pub tally: Tally,
+}
+
+pub fn compare(random: &mut Random) -> Scripts {
+    let mut scripts = Scripts::default();
+    scripts.stored();
+    scripts.answered("every byte", &every_byte());
+    scripts.answered("a wrong byte", &wrong_byte());
+    scripts.answered("damaged sheets", &damaged_sheets());
+    scripts.answered("long lines", &long_lines());
+    scripts.dialogue();
+    scripts.random(random);
+    scripts
+}
+
+impl Scripts {
+    fn answered(&mut self, what: &str, script: &[u8]) {
+        self.output_is(what, script, &run(SESSION, &[], script), &transcript(script));
+    }
+
+    fn output_is(&mut self, what: &str, script: &[u8], output: &Output, wanted: &[u8]) {
+        let what = format!("session, {what}");
+        if output.stdout != wanted {
+            first_difference(&what, script, &output.stdout);
+        }
+        printed(&what, script, output, wanted);
+        self.count += 1;
+        self.lines += lines(script).count();
+    }
+
+    fn stored(&mut self) {
+        for stored in stored::scripts() {
+            let (what, script) = (format!("{}.script", stored.name), &stored.script);
+            assert!(transcript(script) == stored.output, "{what} is stored with other answers");
+            self.output_is(&what, script, &run(SESSION, &[], script), &stored.output);
+            for (size, _) in PIECES.iter().filter(|(_, most)| script.len() <= *most) {
+                let output = run_in_pieces(SESSION, &[], script, *size);
+                self.output_is(&format!("{what} in pieces of {size}"), script, &output, &stored.output);
+            }
+        }
+    }
+
+    /// So many random scripts of each sort, which must meet every kind of answer.
+    fn random(&mut self, random: &mut Random) {
+        let mut tally = Tally::new();
+        let mut write = |times: usize, parts: &dyn Fn(&mut Author, usize)| {
+            for _ in 0..times {
+                let calls = 10 + random.below(391);
+                let mut author = Author::new(random, &mut tally);
+                parts(&mut author, calls);
+                self.answered("a random script", &author.script());
+            }
+        };
+        write(150, &|author, calls| author.calls(calls, 7, 50));
+        write(130, &|author, calls| author.calls(calls, 64, 25));
+        write(8, &|author, _| author.full_tables());
+        write(8, &|author, _| author.many_worlds());
+        write(2, &|author, _| author.many_steps());
+        write(1, &|author, _| author.calls(4_000, 10, 100));
+        for kind in kinds() {
+            assert!(tally.contains_key(&kind), "no random script met: {kind}");
+        }
+        self.tally = tally;
+    }
+
+    /// Each line is told when the line before has been answered, every third one in two halves and the last one without an end.
+    fn dialogue(&mut self) {
+        let questions =
+            stored::scripts().into_iter().find(|stored| stored.name == "questions").expect("questions.script");
+        let mut dialogue = Dialogue::start();
+        let mut program = Conversation::start(SESSION);
+        for (index, line) in lines(&questions.script).enumerate() {
+            let half = if index % 3 == 0 { line.len() / 2 } else { 0 };
+            program.tell(&line[..half]);
+            program.tell(&[&line[half..], b"\n"].concat());
+            let answer = dialogue.answer(line);
+            let heard = program.hear(answer.len());
+            if heard != answer.as_bytes() {
+                fail("session, in a dialogue", line, &heard, answer.as_bytes());
+            }
+            self.lines += 1;
+        }
+        program.tell(b"length");
+        let answer = dialogue.answer(b"length");
+        printed("session, the end of a dialogue", b"length", &program.end(), answer.as_bytes());
+        self.count += 1;
+        self.lines += 1;
+    }
+}
+
+/// The line whose answer is the first that differs; the script is kept.
+fn first_difference(what: &str, script: &[u8], found: &[u8]) {
+    fs::write(DIFFERENT, script).expect("the script kept");
+    let mut dialogue = Dialogue::start();
+    let mut rest = found;
+    for (index, line) in lines(script).enumerate() {
+        let answer = dialogue.answer(line);
+        match rest.strip_prefix(answer.as_bytes()) {
+            Some(after) => rest = after,
+            None => fail(&format!("{what}, line {} of {DIFFERENT}", index + 1), line, rest, answer.as_bytes()),
+        }
+    }
+}

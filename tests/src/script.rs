@@ -1,0 +1,219 @@
+//! Scripts of calls on a session: lines of words, and what is answered to each.
+
+use crate::certificate::verdict_line;
+use crate::naming::{Flat, Implication};
+use crate::refusal::Refusal;
+use crate::report::verdict_lines;
+use crate::session::Session;
+
+pub const MOST_LINE_BYTES: usize = 32_768;
+
+/// All that is answered to a script.
+pub fn transcript(script: &[u8]) -> Vec<u8> {
+    let mut dialogue = Dialogue::start();
+    lines(script).flat_map(|line| dialogue.answer(line).into_bytes()).collect()
+}
+
+/// The lines without their ends; a last one that has no end counts.
+pub fn lines(script: &[u8]) -> impl Iterator<Item = &[u8]> {
+    script.split_inclusive(|&byte| byte == b'\n').map(|line| line.strip_suffix(b"\n").unwrap_or(line))
+}
+
+/// The session that the lines so far have made.
+pub struct Dialogue {
+    session: Session,
+    lines: u64,
+}
+
+enum Call<'a> {
+    Open(u8),
+    Text(&'a [u8]),
+    Flat(Flat),
+    Implication(Implication),
+    Ask(u8),
+    Length,
+    Sheet,
+    Check(Vec<u8>),
+}
+
+impl Dialogue {
+    pub fn start() -> Dialogue {
+        Dialogue { session: Session::of_one_atom(), lines: 0 }
+    }
+
+    pub fn session(&self) -> &Session {
+        &self.session
+    }
+
+    /// The answer to the next line; nothing to a blank one or a comment.
+    pub fn answer(&mut self, line: &[u8]) -> String {
+        self.lines = self.lines.saturating_add(1);
+        if line.starts_with(b"#") || line.iter().all(|&byte| byte == b' ') {
+            return String::new();
+        }
+        match read(line) {
+            None => format!("line {} is no call\n", self.lines),
+            Some(call) => self.make(call).unwrap_or_else(|refusal| format!("{refusal}\n")),
+        }
+    }
+
+    fn make(&mut self, call: Call) -> Result<String, Refusal> {
+        let done = |()| "done\n".to_string();
+        let session = &mut self.session;
+        match call {
+            Call::Open(atoms) => {
+                let opened = Session::open(atoms).map(|session| (session, ()));
+                self.begin(opened).map(done)
+            }
+            Call::Text(text) => self.begin(Session::of_text(text)).map(|goal| format!("goal {goal}\n")),
+            Call::Flat(flat) => session.add_flat(flat).map(done),
+            Call::Implication(implication) => session.add_implication(implication).map(done),
+            Call::Ask(goal) => session.ask(goal).map(|answer| verdict_lines(session.atoms(), &answer)),
+            Call::Length => Ok(format!("length {}\n", session.length_told())),
+            Call::Sheet => session.sheet().map(|sheet| format!("sheet {}\n", hexadecimal(&sheet))),
+            Call::Check(sheet) => Ok(verdict_line(&sheet)),
+        }
+    }
+
+    /// Goes on with a new session, which a refusal gives too.
+    fn begin<T>(&mut self, opened: Result<(Session, T), Refusal>) -> Result<T, Refusal> {
+        self.session = Session::of_one_atom();
+        let (session, told) = opened?;
+        self.session = session;
+        Ok(told)
+    }
+}
+
+fn read(line: &[u8]) -> Option<Call<'_>> {
+    if line.len() > MOST_LINE_BYTES {
+        return None;
+    }
+    let words: Vec<&[u8]> = line.split(|&byte| byte == b' ').filter(|word| !word.is_empty()).collect();
+    let call = match words[..] {
+        [b"open", atoms] => Call::Open(byte(atoms)?),
+        [b"text", ..] => Call::Text(text_of(line)),
+        [b"flat", left, right] => Call::Flat(Flat { left: number(left)?, right: number(right)? }),
+        [b"implication", a, b, c] => Call::Implication(Implication { a: byte(a)?, b: byte(b)?, c: byte(c)? }),
+        [b"ask", goal] => Call::Ask(byte(goal)?),
+        [b"length"] => Call::Length,
+        [b"sheet"] => Call::Sheet,
+        [b"check"] => Call::Check(Vec::new()),
+        [b"check", digits] => Call::Check(bytes(digits)?),
+        _ => return None,
+    };
+    Some(call)
+}
+
+/// All behind the word `text` and one space.
+fn text_of(line: &[u8]) -> &[u8] {
+    let spaces = line.iter().take_while(|&&byte| byte == b' ').count();
+    line.get(spaces + b"text ".len()..).unwrap_or_default()
+}
+
+fn number(word: &[u8]) -> Option<u64> {
+    word.iter().try_fold(0u64, |value, byte| {
+        let digit = byte.is_ascii_digit().then(|| byte - b'0')?;
+        value.checked_mul(10)?.checked_add(digit.into())
+    })
+}
+
+fn byte(word: &[u8]) -> Option<u8> {
+    u8::try_from(number(word)?).ok()
+}
+
+/// The bytes that pairs of small hexadecimal digits stand for.
+fn bytes(digits: &[u8]) -> Option<Vec<u8>> {
+    let value = |digit: u8| match digit {
+        b'0'..=b'9' => Some(digit - b'0'),
+        b'a'..=b'f' => Some(digit - b'a' + 10),
+        _ => None,
+    };
+    let pairs = digits.chunks(2).map(|pair| match *pair {
+        [high, low] => Some(16 * value(high)? + value(low)?),
+        _ => None,
+    });
+    pairs.collect()
+}
+
+pub fn hexadecimal(bytes: &[u8]) -> String {
+    bytes.iter().map(|byte| format!("{byte:02x}")).collect()
+}
+
+#[cfg(test)]
+mod tests {
+    use super::*;
+    use crate::stored::scripts;
+
+    fn answers(script: &[u8]) -> String {
+        String::from_utf8(transcript(script)).expect("letters")
+    }
+
+    #[test]
+    fn stored_answers() {
+        for stored in scripts() {
+            assert_eq!(answers(&stored.script), String::from_utf8_lossy(&stored.output), "{}", stored.name);
+        }
+    }
+
+    #[test]
+    fn lines_and_their_ends() {
+        let cases: [(&[u8], &str); 10] = [
+            (b"", ""),
+            (b"\n", ""),
+            (b"\n\n  \n#x\nx", "line 5 is no call\n"),
+            (b"length", "length 4647\n"),
+            (b"length\n", "length 4647\n"),
+            (b"length\n\n", "length 4647\n"),
+            (b"length\nlength", "length 4647\nlength 4647\n"),
+            (b"length\r\n", "line 1 is no call\n"),
+            (b"\r\n", "line 1 is no call\n"),
+            (b" #\n", "line 1 is no call\n"),
+        ];
+        for (script, wanted) in cases {
+            assert_eq!(answers(script), wanted, "{}", script.escape_ascii());
+        }
+    }
+
+    #[test]
+    fn long_lines() {
+        let of_length = |length: usize, start: &str, filler: &str, end: &str| {
+            let room = length - start.len() - end.len();
+            let line = start.to_string() + &filler.repeat(room) + end;
+            assert_eq!(line.len(), length);
+            answers(line.as_bytes())
+        };
+        let forms = [
+            ("open ", "0", "7", "done\n"),
+            ("open 7", " ", "", "done\n"),
+            ("", " ", "open 7", "done\n"),
+            ("flat 1", " ", "1", "done\n"),
+            ("text ", " ", "p", "refused 1\n"),
+            ("x", "x", "", "line 1 is no call\n"),
+        ];
+        for (start, filler, end, wanted) in forms {
+            assert_eq!(of_length(MOST_LINE_BYTES - 1, start, filler, end), wanted);
+            assert_eq!(of_length(MOST_LINE_BYTES, start, filler, end), wanted);
+            assert_eq!(of_length(MOST_LINE_BYTES + 1, start, filler, end), "line 1 is no call\n");
+            assert_eq!(of_length(2 * MOST_LINE_BYTES, start, filler, end), "line 1 is no call\n");
+        }
+        assert_eq!(of_length(MOST_LINE_BYTES, "check ", "0", ""), "refused 13\n");
+        assert_eq!(of_length(MOST_LINE_BYTES - 1, "check ", "0", ""), "line 1 is no call\n");
+        for (start, filler) in [("#", "x"), ("#", " "), ("", " ")] {
+            assert_eq!(of_length(MOST_LINE_BYTES + 1, start, filler, ""), "");
+            assert_eq!(of_length(3 * MOST_LINE_BYTES, start, filler, ""), "");
+        }
+        assert_eq!(of_length(3 * MOST_LINE_BYTES, "", " ", "#"), "line 1 is no call\n");
+    }
+
+    #[test]
+    fn limits_of_numbers() {
+        let most_set = u64::MAX.to_string();
+        let zeros = "0".repeat(1_000);
+        assert_eq!(number(most_set.as_bytes()), Some(u64::MAX));
+        assert_eq!(number((zeros.clone() + &most_set).as_bytes()), Some(u64::MAX));
+        for word in ["18446744073709551616", "18446744073709551625", "184467440737095516150", "1x", "-1", "+1", "1 "] {
+            assert_eq!(number(word.as_bytes()), None, "{word}");
+        }
+        assert_eq!((byte(b"255"), byte(b"256"), byte((zeros + "255").as_bytes())), (Some(255), None, Some(255)));
+    }
+}

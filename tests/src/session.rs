@@ -1,0 +1,172 @@
+//! The session of document 01: clauses held, questions answered by the fixed search, steps and the last verdict kept.
+
+use crate::certificate;
+use crate::naming::{problem_of, Flat, Implication, Problem, FALSE, MOST_FLATS, MOST_IMPLICATIONS};
+use crate::reader::read;
+use crate::refusal::Refusal;
+use crate::search::{settle_after, Answer, Step, Verdict};
+
+/// The most bytes that the steps or the worlds of a certificate take.
+const MOST_CLAIM_BYTES: usize = 4_608;
+
+pub struct Session {
+    /// The clauses held; the goal is that of the last verdict, at first that of the text.
+    problem: Problem,
+    steps: Vec<Step>,
+    questions: u32,
+    verdict: Option<Verdict>,
+}
+
+impl Session {
+    /// What a refused opening or text gives.
+    pub fn of_one_atom() -> Session {
+        Session::holding(Problem { atoms: 1, flats: Vec::new(), implications: Vec::new(), goal: FALSE })
+    }
+
+    pub fn open(atoms: u8) -> Result<Session, Refusal> {
+        refuse(5, !(1..=64).contains(&atoms))?;
+        let mut session = Session::of_one_atom();
+        session.problem.atoms = atoms;
+        Ok(session)
+    }
+
+    /// The session of a text, and its goal.
+    pub fn of_text(text: &[u8]) -> Result<(Session, u8), Refusal> {
+        let problem = problem_of(&read(text)?);
+        let goal = problem.goal;
+        Ok((Session::holding(problem), goal))
+    }
+
+    fn holding(problem: Problem) -> Session {
+        Session { problem, steps: Vec::new(), questions: 0, verdict: None }
+    }
+
+    pub fn atoms(&self) -> u8 {
+        self.problem.atoms
+    }
+
+    pub fn add_flat(&mut self, flat: Flat) -> Result<(), Refusal> {
+        refuse(6, !self.problem.has_set(flat.left | flat.right))?;
+        refuse(7, self.is_full_of_flats())?;
+        self.problem.flats.push(flat);
+        self.verdict = None;
+        Ok(())
+    }
+
+    pub fn add_implication(&mut self, implication: Implication) -> Result<(), Refusal> {
+        refuse(6, !self.problem.has_atoms_of(&implication))?;
+        let closing = implication.closing();
+        refuse(7, closing.is_some() && self.is_full_of_flats())?;
+        refuse(8, self.problem.implications.len() == MOST_IMPLICATIONS)?;
+        self.problem.implications.push(implication);
+        self.problem.flats.extend(closing);
+        self.verdict = None;
+        Ok(())
+    }
+
+    fn is_full_of_flats(&self) -> bool {
+        self.problem.flats.len() == MOST_FLATS
+    }
+
+    /// The verdict with all steps held and the questions of all calls. A refused question changes nothing.
+    pub fn ask(&mut self, goal: u8) -> Result<Answer, Refusal> {
+        refuse(6, !self.problem.has_atom_or_false(goal))?;
+        let problem = Problem { goal, ..self.problem.clone() };
+        let answer = settle_after(&problem, &self.steps)?;
+        self.problem = problem;
+        self.questions = self.questions.saturating_add(answer.questions);
+        self.steps = answer.steps;
+        self.verdict = Some(answer.verdict);
+        self.answer()
+    }
+
+    /// The answer held, if a verdict is.
+    fn answer(&self) -> Result<Answer, Refusal> {
+        let verdict = self.verdict.clone().ok_or(Refusal::plain(9))?;
+        Ok(Answer { verdict, steps: self.steps.clone(), questions: self.questions })
+    }
+
+    /// A length that no sheet of these clauses exceeds.
+    pub fn length_told(&self) -> usize {
+        39 + 16 * self.problem.flats.len() + 3 * self.problem.implications.len() + MOST_CLAIM_BYTES
+    }
+
+    pub fn sheet(&self) -> Result<Vec<u8>, Refusal> {
+        Ok(certificate::write(&self.problem, &self.answer()?))
+    }
+}
+
+fn refuse(number: u8, holds: bool) -> Result<(), Refusal> {
+    if holds {
+        return Err(Refusal::plain(number));
+    }
+    Ok(())
+}
+
+#[cfg(test)]
+mod tests {
+    use super::*;
+    use crate::certificate::verdict_line;
+
+    const SAME: Flat = Flat { left: 1, right: 1 };
+    const NOT_FALSE: Implication = Implication { a: 0, b: FALSE, c: FALSE };
+
+    fn refusal<T>(answered: Result<T, Refusal>) -> u8 {
+        answered.err().map_or(0, |refusal| refusal.number)
+    }
+
+    #[test]
+    fn openings() {
+        let numbers = [0, 1, 64, 65, 255].map(|atoms| refusal(Session::open(atoms)));
+        assert_eq!(numbers, [5, 0, 0, 5, 5]);
+    }
+
+    #[test]
+    fn refusals_in_order() {
+        let mut session = Session::open(1).expect("one atom");
+        for _ in 0..MOST_FLATS {
+            assert_eq!(refusal(session.add_flat(SAME)), 0);
+        }
+        assert_eq!(refusal(session.add_flat(SAME)), 7);
+        assert_eq!(refusal(session.add_flat(Flat { left: 2, right: 1 })), 6);
+        for _ in 0..MOST_IMPLICATIONS {
+            assert_eq!(refusal(session.add_implication(NOT_FALSE)), 0);
+        }
+        assert_eq!(refusal(session.add_implication(NOT_FALSE)), 8);
+        assert_eq!(refusal(session.add_implication(Implication { b: 0, ..NOT_FALSE })), 7);
+        assert_eq!(refusal(session.add_implication(Implication { a: FALSE, b: 0, c: 0 })), 6);
+        assert_eq!(session.length_told(), 13_223);
+    }
+
+    #[test]
+    fn verdicts_held() {
+        let (mut session, goal) = Session::of_text(b"p>p").expect("p>p");
+        assert_eq!((goal, refusal(session.sheet())), (1, 9));
+        let answer = session.ask(goal).expect("a verdict");
+        assert_eq!((answer.verdict, answer.questions, answer.steps.len()), (Verdict::Valid, 3, 1));
+        let sheet = session.sheet().expect("a sheet");
+        assert_eq!((sheet.len(), verdict_line(&sheet)), (83, "accepted valid\n".into()));
+        assert_eq!(refusal(session.ask(2)), 6);
+        assert_eq!(refusal(session.add_flat(Flat { left: 4, right: 0 })), 6);
+        assert_eq!(session.sheet(), Ok(sheet));
+        assert_eq!(refusal(session.add_flat(SAME)), 0);
+        assert_eq!(refusal(session.sheet()), 9);
+        let again = session.ask(goal).expect("a verdict");
+        assert_eq!((again.questions, again.steps.len()), (4, 1));
+    }
+
+    #[test]
+    fn a_question_that_needs_too_many_worlds_changes_nothing() {
+        let mut session = Session::open(10).expect("ten atoms");
+        for a in 0..9 {
+            session.add_implication(Implication { a, ..NOT_FALSE }).expect("an implication");
+        }
+        assert_eq!(refusal(session.ask(FALSE)), 11);
+        assert_eq!((session.questions, refusal(session.sheet())), (0, 9));
+        session.add_flat(Flat { left: 0, right: 1 << 0 | 1 << 9 }).expect("a clause");
+        let answer = session.ask(9).expect("256 worlds that have atom 0");
+        let sheet = session.sheet();
+        assert_eq!(refusal(session.ask(0)), 11);
+        assert_eq!((session.questions, session.sheet()), (answer.questions, sheet));
+    }
+}
