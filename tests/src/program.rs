@@ -1,7 +1,10 @@
 //! The built programs, run as children.
 
 use std::ffi::OsStr;
+use std::fs::File;
 use std::io::{ErrorKind, Read, Write};
+use std::os::fd::OwnedFd;
+use std::os::unix::net::UnixDatagram;
 use std::process::{exit, Child, ChildStdin, ChildStdout, Command, Output, Stdio};
 use std::sync::mpsc::{channel, Receiver, Sender};
 use std::thread;
@@ -46,6 +49,23 @@ fn start(program: &str, arguments: &[&OsStr]) -> Child {
         eprintln!("{program} does not start: {error}");
         exit(2)
     })
+}
+
+/// What a program writes of an output of so many bytes, each write that has bytes by itself; its input is a file.
+pub fn writes(program: &str, input: File, length: usize) -> Vec<Vec<u8>> {
+    let (output, heard) = UnixDatagram::pair().expect("a socket");
+    heard.set_read_timeout(Some(PATIENCE)).expect("a socket that waits");
+    let mut command = Command::new(program);
+    let mut child = command.stdin(input).stdout(OwnedFd::from(output)).spawn().expect("its start");
+    let mut written: Vec<Vec<u8>> = Vec::new();
+    let mut bytes = vec![0; 1 << 17];
+    while written.iter().map(Vec::len).sum::<usize>() < length {
+        let Ok(count) = heard.recv(&mut bytes) else { break };
+        written.push(bytes[..count].to_vec());
+    }
+    child.wait().expect("its end");
+    written.retain(|bytes| !bytes.is_empty());
+    written
 }
 
 /// A program may end before it has taken all of its input.

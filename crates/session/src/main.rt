@@ -3,7 +3,7 @@ use libc::STDERR_FILENO;
 use prover::Session;
 use script::Pending;
 use streams::Input;
-ghost use mathlib.Core.Bool.{true};
+ghost use mathlib.Core.Bool.{true, false};
 ghost use mathlib.Core.Path.{_≡_};
 ghost use Prim.Native.Nat.{_≤_};
 ghost use lib.ListN.{length};
@@ -11,6 +11,9 @@ ghost use Rattle.script.specs.Run.{outputRoom, Through};
 
 // A script is read in pieces of at most so many bytes.
 const PIECE: usize = 65536;
+
+// Answers are held while there is room for one more.
+const ANSWERS: usize = 2 * script::OUTPUT;
 
 // A script that is being read: its session, the line that has begun, and that line's number.
 struct Script {
@@ -29,7 +32,22 @@ fn write(output: &[u8]) -> bool {
     output.len() == 0 || streams::write(output)
 }
 
-// Answers the lines that end in a piece.
+// Whether the answers held are written before the line that begins at a place of the piece: its own may need the room; or it may be
+// a question, which can take long. Who sends a full piece ahead does not wait for a single answer.
+fn are_due(piece: &[u8], at: usize, room: usize) -> bool
+    ensures { λ r. ⌜ (r ≡ false → outputRoom ≤ room) ⌝ }
+{
+    let n = piece.len();
+    if room < script::OUTPUT {
+        return true;
+    }
+    if n <= at || n == PIECE {
+        return false;
+    }
+    piece[at] == b'a' || piece[at] == b' '
+}
+
+// Answers the lines that end in a piece, and writes the answers, each as soon as it is due, and all of them in the end.
 fn answer(start: Script, piece: &[u8], line: &mut [u8], output: &mut [u8]) -> Reached
     requires { ⌜ outputRoom ≤ length (now output) ⌝ }
     ensures { λ r. ⌜ (r .more ≡ true → Through (start .session) (start .number) (now (line .entry)) (start .pending) (now (piece .entry))
@@ -38,6 +56,7 @@ fn answer(start: Script, piece: &[u8], line: &mut [u8], output: &mut [u8]) -> Re
     let mut session = start.session;
     let mut pending = start.pending;
     let mut number = start.number;
+    let mut held = 0;
     let mut more = true;
     let mut at = 0;
     while more && at < piece.len() {
@@ -45,12 +64,15 @@ fn answer(start: Script, piece: &[u8], line: &mut [u8], output: &mut [u8]) -> Re
         at = gathered.at;
         pending = gathered.pending;
         if gathered.ended {
-            let answer = script::answer_line(session, number, line, pending, output);
+            let answer = script::answer_line(session, number, line, pending, &mut output[held..]);
             session = answer.session;
             number = script::number_after(number);
             pending = Pending::NONE;
-            let n = answer.length;
-            more = write(&output[..n]);
+            held += answer.length;
+            if are_due(piece, at, output.len() - held) {
+                more = write(&output[..held]);
+                held = 0;
+            }
         }
     }
     let script = Script {
@@ -58,7 +80,10 @@ fn answer(start: Script, piece: &[u8], line: &mut [u8], output: &mut [u8]) -> Re
         pending,
         number,
     };
-    Reached { script, more }
+    Reached {
+        script,
+        more: more && write(&output[..held]),
+    }
 }
 
 // Answers the last line.
@@ -128,6 +153,6 @@ fn main() {
     }
     let mut piece = [0u8; PIECE];
     let mut line = [0u8; script::LINE];
-    let mut output = [0u8; script::OUTPUT];
+    let mut output = [0u8; ANSWERS];
     run(&mut piece, &mut line, &mut output);
 }

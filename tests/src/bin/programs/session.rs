@@ -3,17 +3,21 @@
 use crate::generated_scripts::{damaged_sheets, every_byte, long_lines, wrong_byte};
 use crate::random_scripts::{kinds, Author, Tally};
 use crate::{fail, printed};
-use outside::program::{run, run_in_pieces, Conversation, SESSION};
+use outside::program::{run, run_in_pieces, writes, Conversation, SESSION};
 use outside::random::Random;
 use outside::script::{lines, transcript, Dialogue};
 use outside::stored;
-use std::fs;
+use std::fs::{self, File};
 use std::process::Output;
 
+const WRITTEN: &str = concat!(env!("CARGO_MANIFEST_DIR"), "/../target/outside/written.script");
 const DIFFERENT: &str = concat!(env!("CARGO_MANIFEST_DIR"), "/../target/outside/different.script");
 
 /// Pieces of so many bytes, for scripts of at most so many.
 const PIECES: [(usize, usize); 3] = [(1, 2_000), (7, 4_000), (4_096, usize::MAX)];
+
+/// The most bytes that the program reads at once.
+const FULL: usize = 65_536;
 
 /// What was compared.
 #[derive(Default)]
@@ -32,6 +36,7 @@ pub fn compare(random: &mut Random) -> Scripts {
     scripts.answered("damaged sheets", &damaged_sheets());
     scripts.answered("long lines", &long_lines());
     scripts.dialogue();
+    scripts.written_together();
     scripts.random(random);
     scripts
 }
@@ -108,6 +113,31 @@ impl Scripts {
         printed("session, the end of a dialogue", b"length", &program.end(), answer.as_bytes());
         self.count += 1;
         self.lines += 1;
+    }
+
+    /// An answer waits for other lines that were read with its own, but not for a question, unless all that can be read at once was.
+    fn written_together(&mut self) {
+        let questions = ["open 3\nflat 1 2\n", "ask 0\nlength\n", " ask 1\n\nimplication 0 1 2\n", "ask 2\n", "ask 0"];
+        self.in_writes(&questions.map(str::to_owned));
+        let ahead = "open 3\nask 0\nask 1\nlength\n";
+        let full = format!("#{:1$}\n{ahead}", "", FULL - ahead.len() - 2);
+        self.in_writes(&[full, "ask 0\n".to_owned(), "ask 1\n".to_owned()]);
+    }
+
+    /// A script whose parts are each answered in one write.
+    fn in_writes(&mut self, parts: &[String]) {
+        let script = parts.concat().into_bytes();
+        fs::write(WRITTEN, &script).expect("a script");
+        let mut dialogue = Dialogue::start();
+        let mut answers = |part: &String| lines(part.as_bytes()).map(|line| dialogue.answer(line)).collect::<String>();
+        let wanted: Vec<Vec<u8>> = parts.iter().map(|part| answers(part).into_bytes()).collect();
+        let length = wanted.iter().map(Vec::len).sum();
+        let written = writes(SESSION, File::open(WRITTEN).expect("the script"), length);
+        if written != wanted {
+            fail("session, by writes", &script, &written.join(&b'|'), &wanted.join(&b'|'));
+        }
+        self.count += 1;
+        self.lines += lines(&script).count();
     }
 }
 

@@ -1,0 +1,2 @@
+-- Laws of the answers held.
+mod Holding
