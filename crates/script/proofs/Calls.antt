@@ -1,7 +1,7 @@
 -- The call of a line that is kept: whole, or as much of it as there is room for.
 use mathlib.Core.Bool.{Bool, true, false, cond, _||_}
 use mathlib.Core.List.{List, [], _∷_}
-use mathlib.Core.Path.{_≡_, refl, sym, ap, _∙_, subst}
+use mathlib.Core.Path.{_≡_, refl, sym, ap, _∙_}
 use Prim.Native.Nat.{ℕ, _≤_, _<_, min}
 use native.Mathlib.Decide.{decLe}
 use native.Mathlib.Omega.{arith}
@@ -9,7 +9,7 @@ use lib.Dec.{eqb, leb}
 use lib.ListN.{length, take, getD, length-take}
 use lib.Seq.{take-all}
 use borrow.Author.Tests.{lt-leb, eq-eqb, ne-eqb}
-use Rattle.script.specs.Command.{Line, silent, noCall, commandIn, isBlank, isComment, longestCall, orNone, lineOf}
+use Rattle.script.specs.Command.{silent, noCall, commandIn, isBlank, isComment, longestCall, orNone, lineOf}
 use Rattle.script.specs.Reading.{ReadAs}
 use Rattle.script.specs.Answer.{lineRoom}
 use Rattle.script.specs.Pieces.{Begun, CallIs}
@@ -20,7 +20,11 @@ use Rattle.script.specs.declared.reading.Call.the-variants as code
 -- A blank line is silent, whatever its length.
 pub blank-silent : (kept : List ℕ) (blank : Bool) → blank ≡ true → CallIs kept blank code.Silent
 unfolding lineOf
-blank-silent kept blank e = record { inside = tt; is = λ line same b. sym (ap (λ (t : Bool). cond (t || isComment line) silent (cond (leb (length line) longestCall) (orNone (commandIn line)) noCall)) (sym b ∙ e)) }
+blank-silent kept blank e = record {
+  inside = tt;
+  is = λ line same b.
+      sym (ap (λ (t : Bool). cond (t || isComment line) silent (cond (leb (length line) longestCall) (orNone (commandIn line)) noCall)) (sym b ∙ e));
+}
 
 -- A line of which fewer bytes are kept than there is room for is kept whole.
 pub whole-read : (kept : List ℕ) (blank : Bool) (r : Call) → length kept ≤ longestCall → ReadAs kept r → CallIs kept blank r

@@ -3,21 +3,18 @@ use mathlib.Core.Bool.{Bool, true, false, _&&_}
 use mathlib.Core.List.{List, [], _∷_, _++_, append-nil}
 use mathlib.Core.Path.{_≡_, refl, sym, ap, ap₂, _∙_, subst}
 use Prim.Native.Nat.{ℕ, suc, _+_, _-_, _≤_, _<_}
-use native.Mathlib.Numerals.{add-one}
 use native.Mathlib.Omega.{arith}
 use lib.Dec.{eqb}
 use lib.ListN.{length, take, drop, getD, length-drop, drop-of-length-le}
 use lib.Seq.{take-all, take-length, split-at, drop-drop, drop-length}
 use borrow.Author.Tests.{eqb-true, eqb-false}
 use Rattle.bytes.specs.Bytes.{slice, indexAfter, indexOf}
-use Rattle.ipl.specs.Lists.{All}
 use Rattle.ipl.proofs.Lists.{All-append}
 use Rattle.text.specs.Output.{Appends}
 use Rattle.script.specs.Words.{lineFeed}
 use Rattle.script.specs.Command.{isBlank}
-use Rattle.script.specs.Pieces.{OneLine, Begun, Longer, GoesOn, Ends, GatheredFrom}
+use Rattle.script.specs.Pieces.{OneLine, Begun, Longer, GatheredFrom}
 use Rattle.script.specs.declared.Pending.{Pending}
-use Rattle.script.specs.declared.Gathered.{Gathered}
 use Rattle.script.proofs.Blank.{blank-append}
 
 -- ---- the line grows
@@ -83,10 +80,13 @@ module _ (piece : List ℕ) (from end : ℕ) (inside : from < length piece) (fou
     pub gathered-line : end < length piece → GatheredFrom piece from before p after (record { pending = q; at = end + 1; ended = true })
     gathered-line h =
         let there : indexOf lineFeed input < length input = omega (arith, size, index-is) in
+        let behind : drop (suc (indexOf lineFeed input)) input ≡ drop (end + 1) piece =
+        drop-drop (suc (indexOf lineFeed input)) from piece
+        ∙ ap (λ (k : ℕ). drop k piece) {x = from + suc (indexOf lineFeed input)} {y = end + 1} (omega (arith, index-is)) in
         let cut : input ≡ take (end - from) input ++ lineFeed ∷ drop (end + 1) piece =
         split-at input (indexOf lineFeed input) 0 there
         ∙ ap₂ (λ (k b : ℕ). take k input ++ b ∷ drop (suc (indexOf lineFeed input)) input) index-is (at-feed input there)
-        ∙ ap (λ (l : List ℕ). take (end - from) input ++ lineFeed ∷ l) (drop-drop (suc (indexOf lineFeed input)) from piece ∙ ap (λ (k : ℕ). drop k piece) {x = from + suc (indexOf lineFeed input)} {y = end + 1} (omega (arith, index-is))) in
+        ∙ ap (λ (l : List ℕ). take (end - from) input ++ lineFeed ∷ l) behind in
         record {
           inside = omega arith;
           further = λ _. omega (arith, index-is);
@@ -94,7 +94,8 @@ module _ (piece : List ℕ) (from end : ℕ) (inside : from < length piece) (fou
         }
 
 -- A place past the piece's end.
-pub gathered-nothing : (piece : List ℕ) (from : ℕ) (buffer : List ℕ) (p : Pending) → length piece ≤ from → GatheredFrom piece from buffer p buffer (record { pending = p; at = length piece; ended = false })
+pub gathered-nothing : (piece : List ℕ) (from : ℕ) (buffer : List ℕ) (p : Pending) → length piece ≤ from
+    → GatheredFrom piece from buffer p buffer (record { pending = p; at = length piece; ended = false })
 gathered-nothing piece from buffer p h = record {
   inside = omega arith;
   further = λ k. absurd (omega arith);

@@ -14,7 +14,8 @@ use Rattle.text.specs.Text.{ascii, hex}
 use Rattle.bytes.specs.Bytes.{indexOf, indexAfter}
 use Rattle.script.specs.Words.{space, split, wordsOf, unindented}
 use Rattle.script.specs.Numbers.{bytesIn}
-use Rattle.script.specs.Command.{Command, Line, silent, readText, tellLength, writeSheet, checkSheet, command, noCall, same, verbOf, argument, end, sheetArgument, commandBy, commandFrom, commandIn, hash, isBlank, isComment, longestCall, orNone, lineOf}
+use Rattle.script.specs.Command.{Command, Line, silent, readText, tellLength, writeSheet, checkSheet, command, noCall}
+use Rattle.script.specs.Command.{same, verbOf, argument, end, sheetArgument, commandBy, commandFrom, commandIn, hash, isBlank, isComment, longestCall, orNone, lineOf}
 use Rattle.script.specs.Language.{Says, opens, reads, reads-nothing, adds-flat, adds-implication, asks, tells, writes, checks, checks-nothing, CallsAreSaid, OneCall}
 use Rattle.script.specs.declared.reading.Verb.{Verb}
 use Rattle.script.specs.declared.reading.Verb.the-variants.{Open, Text, Flat, Implication, Ask, Length, Sheet, Check, Other}

@@ -20,5 +20,5 @@ module _ {s : Session} {number : ℕ} {buffer : List ℕ} {p : Pending} {entry e
   pub held-inside : held + r .length ≤ size
   held-inside = let same = simp (length-take, length-drop) at part .0 in omega (arith, answer-inside r a, same, part .1, room)
 
-  pub held-fits : length output < 2 ^ 64 → Fits w64 (held + r .length)
-  held-fits b = omega (arith, held-inside, part .1, b)
+pub held-fits : {held size : ℕ} → held ≤ size → size < 2 ^ 64 → Fits w64 held
+held-fits h b = omega (arith, h, b)

@@ -1,5 +1,5 @@
--- Each step comes further in the piece.
-use Prim.Native.Nat.{ℕ, _+_, _-_, _≤_}
+-- The lines of a piece, one after the other; what is held stays within the output.
+use Prim.Native.Nat.{ℕ, _+_, _-_, _≤_, _<_}
 use mathlib.Core.Bool.{true≢false}
 use mathlib.Core.Path.{_≡_, refl, sym, _∙_}
 use mathlib.Core.Logic.{⊎-elim}
@@ -30,73 +30,72 @@ loop-holds c = (omega arith, refl, refl, omega (arith, c .before .before .before
 sub-answer-line : tie.Need-sub-answer-line Inv-loop μ-loop
 sub-answer-line c = omega (arith, c .before .before .before .before .before .before .before .before .before .loop .inv .3)
 
+-- The answer stands behind those held, within an output of as many bytes as before.
+within : (put : tie.After-output Inv-loop μ-loop) (size : ℕ) → (let looped = put .before .before .before .before .before .before .before .before .before .before .before .before .loop in
+    size ≡ length (looped .output) → looped .held + put .before .answer-line .result .length ≤ size)
+within put size same =
+    let looped = put .before .before .before .before .before .before .before .before .before .before .before .before .loop in
+    held-inside (looped .output) (looped .held) _ (put .before .answer-line .ensures) (looped .inv .3) size (put .output .given .0, same)
+
 add-held : tie.Need-add-held Inv-loop μ-loop
 add-held c =
-    let answered = c .before .before .before .before in
-    let looped = answered .before .before .before .before .before .before .before .before .before .before .before .loop in
-    let start = answered .before .before .before .before .before .before .before .before .before .before .before .before .before .before .before .before .before in
-    held-fits (looped .output) (looped .held) _ (answered .answer-line .ensures) (looped .inv .3) _ (c .before .before .before .output .given) (omega (arith, looped .inv .2, start .good .1 .1 .1 .0))
+    let put = c .before .before .before in
+    let looped = put .before .before .before .before .before .before .before .before .before .before .before .before in
+    let start = looped .before .before .before .before .before .before in
+    held-fits (within put _ refl) (omega (arith, looped .loop .inv .2, start .good .1 .1 .1 .0))
 
 sub-are-due : tie.Need-sub-are-due Inv-loop μ-loop
-sub-are-due c =
-    let answered = c .before .before .before .before in
-    let looped = answered .before .before .before .before .before .before .before .before .before .before .before .loop in
-    held-inside (looped .output) (looped .held) _ (answered .answer-line .ensures) (looped .inv .3) _ (c .before .before .before .output .given)
+sub-are-due c = within (c .before .before .before) _ (c .before .before .before .output .given .1)
 
 slice-reshare-prefix-write : tie.Need-slice-reshare-prefix-write Inv-loop μ-loop
-slice-reshare-prefix-write c =
-    let answered = c .before .before .before .before .before .before in
-    let looped = answered .before .before .before .before .before .before .before .before .before .before .before .loop in
-    held-inside (looped .output) (looped .held) _ (answered .answer-line .ensures) (looped .inv .3) _ (c .before .before .before .before .before .output .given)
+slice-reshare-prefix-write c = within (c .before .before .before .before .before) _ (c .before .before .before .before .before .output .given .1)
 
 slice-aggregate-write : tie.Need-slice-aggregate-write Inv-loop μ-loop
-slice-aggregate-write c =
-    let answered = c .before .before .before .before .before .before .before in
-    let looped = answered .before .before .before .before .before .before .before .before .before .before .before .loop in
-    sym (length-take-le _ _ (held-inside (looped .output) (looped .held) _ (answered .answer-line .ensures) (looped .inv .3) _ (c .before .before .before .before .before .before .output .given)))
+slice-aggregate-write c = sym (length-take-le _ _ (within (c .before .before .before .before .before .before) _ (c .before .before .before .before .before .before .output .given .1)))
+
+-- Each step comes further in the piece.
+comes-further : (gathered : tie.After-gather Inv-loop μ-loop) → (let piece = gathered .before .before .before .before .before .before .before .before .before .before .args .piece .now in
+    length piece - gathered .gather .result .at < length piece - gathered .before .before .before .before .loop .at)
+comes-further gathered =
+    let step = gathered .gather .ensures in
+    omega (arith, step .inside, step .further (ltb-true _ _ (gathered .before .before .if1 .taken)))
 
 loop-less : tie.Need-loop-less Inv-loop μ-loop
-loop-less c =
-    let gathered = c .before .before .before .before .before .before .before .before .before .before .before .before .before .before .before in
-    omega (arith, gathered .gather .ensures .inside, gathered .gather .ensures .further (ltb-true _ _ (gathered .before .before .if1 .taken)))
+loop-less c = comes-further (c .before .before .before .before .before .before .before .before .before .before .before .before .before .before .before)
 
 loop-again : tie.Need-loop-again Inv-loop μ-loop
 loop-again c =
     let answered = c .before .before .before .before .before .before .before .before in
     let gathered = answered .before .before .before .before .before .before .before in
     let looped = gathered .before .before .before .before .loop in
-    let same = c .before .before .before .before .before .before .before .output .given .1 in
-    let leads = leads-answered _ _ (looped .inv .4) _ (gathered .gather .ensures) _ in (
+    let same = c .before .before .before .before .before .before .before .output .given .1 in (
       gathered .gather .ensures .inside,
       omega arith,
       same ∙ looped .inv .2,
       omega (arith, same, looped .inv .3),
-      leads (answered .before .before .before .if2 .taken) (omega arith) (answered .answer-line .ensures) (c .before .before .before .before .number-after .ensures),
+      leads-answered _ _ (looped .inv .4) _ (gathered .gather .ensures) _ (answered .before .before .before .if2 .taken)
+          (omega arith) (answered .answer-line .ensures) (c .before .before .before .before .number-after .ensures),
     )
 
 loop-less-2 : tie.Need-loop-less-2 Inv-loop μ-loop
-loop-less-2 c =
-    let gathered = c .before .before .before .before .before .before .before .before .before .before .before .before .before in
-    omega (arith, gathered .gather .ensures .inside, gathered .gather .ensures .further (ltb-true _ _ (gathered .before .before .if1 .taken)))
+loop-less-2 c = comes-further (c .before .before .before .before .before .before .before .before .before .before .before .before .before)
 
 loop-again-2 : tie.Need-loop-again-2 Inv-loop μ-loop
 loop-again-2 c =
     let answered = c .before .before .before .before .before .before in
     let gathered = answered .before .before .before .before .before .before .before in
     let looped = gathered .before .before .before .before .loop in
-    let same = c .before .before .before .before .before .output .given .1 in
-    let leads = leads-answered _ _ (looped .inv .4) _ (gathered .gather .ensures) _ in (
+    let same = c .before .before .before .before .before .output .given .1 in (
       gathered .gather .ensures .inside,
       omega arith,
       same ∙ looped .inv .2,
       omega (arith, c .before .are-due .ensures (c .if3 .left)),
-      leads (answered .before .before .before .if2 .taken) (omega arith) (answered .answer-line .ensures) (c .before .before .number-after .ensures),
+      leads-answered _ _ (looped .inv .4) _ (gathered .gather .ensures) _ (answered .before .before .before .if2 .taken)
+          (omega arith) (answered .answer-line .ensures) (c .before .before .number-after .ensures),
     )
 
 loop-less-3 : tie.Need-loop-less-3 Inv-loop μ-loop
-loop-less-3 c =
-    let gathered = c .before .before .before .before in
-    omega (arith, gathered .gather .ensures .inside, gathered .gather .ensures .further (ltb-true _ _ (gathered .before .before .if1 .taken)))
+loop-less-3 c = comes-further (c .before .before .before .before)
 
 loop-again-3 : tie.Need-loop-again-3 Inv-loop μ-loop
 loop-again-3 c =

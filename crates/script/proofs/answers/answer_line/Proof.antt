@@ -1,10 +1,16 @@
 -- By the call.
-use mathlib.Core.List.{[]}
-use mathlib.Core.Path.{refl, sym, ap, _∙_}
-use Prim.Native.Nat.{min}
+use mathlib.Core.List.{List, []}
+use mathlib.Core.Path.{_≡_, refl, sym, ap, _∙_}
+use Prim.Native.Nat.{ℕ, min}
+use lib.ListN.{take}
 use lib.Seq.{length-take-le}
 use Rattle.text.specs.Text.{ascii}
 use Rattle.text.proofs.Appending.{nothing}
+use Rattle.script.specs.Reading.{meaning}
+use Rattle.script.specs.Answer.{LineDone, Writes}
+use Rattle.script.specs.Pieces.{Answers}
+use Rattle.script.specs.declared.answers.Answer.{Answer}
+use Rattle.script.specs.declared.reading.Call.{Call}
 use Rattle.script.proofs.Calls.{kept-short}
 use Rattle.script.proofs.Performing.{text-inside, check-inside, answered}
 use borrow.Author.Needs.{needs}
@@ -26,76 +32,63 @@ check-requires c κs =
     let inside = check-inside _ (read .kept-call .ensures .inside) (made .start2 .given .1) in
     (inside .0, inside .1, kept-short _ _ _ (size .least2 .ensures ∙ ap (min (size .before .before .before .before .args .p .length)) (size .before .least .ensures)))
 
+-- The call that was read is known, and was made.
+made : (read : tie.After-kept-call) {entry exit : List ℕ} {r : Answer} {known : Call} → read .kept-call .result ≡ known
+    → (let size = read .before .before in let args = size .before .before .before .before .args in
+    Writes (LineDone (args .s) (args .number) (meaning (take (size .least2 .result) (args .line .now)) known)) entry exit r
+    → Answers (args .s) (args .number) (args .line .now) (args .p) entry exit r)
+made read e w = let size = read .before .before in answered _ _ _ _ _ _ (size .least2 .ensures) (size .before .least .ensures) (read .kept-call .ensures) e w
+
 returns : tie.Need-returns
-returns c =
-    let made = c in
-    let read = made .before .before in
-    let size = read .before .before in
-    answered _ _ _ _ _ _ (size .least2 .ensures) (size .before .least .ensures) (read .kept-call .ensures) (made .enum-told .given .1) ([], (refl, refl), nothing _ 0)
+returns c = made (c .before .before) (c .enum-told .given .1) ([], (refl, refl), nothing _ 0)
 
 returns-2 : tie.Need-returns-2
 unfolding ascii
 returns-2 c =
-    let made = c .before .before .before .before .before .before in
-    let read = made .before .before in
-    let size = read .before .before in
-    answered _ _ _ _ _ _ (size .least2 .ensures) (size .before .least .ensures) (read .kept-call .ensures) (made .enum-told2 .given .1) (_, (refl, refl), c .before .before .numbered .ensures)
+    let known = c .before .before .before .before .before .before in
+    made (known .before .before) (known .enum-told2 .given .1) (_, (refl, refl), c .before .before .numbered .ensures)
 
 returns-3 : tie.Need-returns-3
 returns-3 c =
-    let made = c .before .before .before .before .before in
-    let read = made .before .before in
-    let size = read .before .before in
-    answered _ _ _ _ _ _ (size .least2 .ensures) (size .before .least .ensures) (read .kept-call .ensures) (made .n .given .1) (c .before .before .«open» .ensures (size .before .before .before .before .args .s))
+    let known = c .before .before .before .before .before in
+    let read = known .before .before in
+    made read (known .n .given .1) (c .before .before .«open» .ensures (read .before .before .before .before .before .before .args .s))
 
 returns-4 : tie.Need-returns-4
 returns-4 c =
-    let made = c .before .before .before .before .before in
-    let read = made .before .before in
-    let size = read .before .before in
-    answered _ _ _ _ _ _ (size .least2 .ensures) (size .before .least .ensures) (read .kept-call .ensures) (made .start .given .1) (c .before .before .read-text .ensures (size .before .before .before .before .args .s))
+    let known = c .before .before .before .before .before in
+    let read = known .before .before in
+    made read (known .start .given .1) (c .before .before .read-text .ensures (read .before .before .before .before .before .before .args .s))
 
 returns-5 : tie.Need-returns-5
 returns-5 c =
-    let made = c .before .before .before .before .before in
-    let read = made .before .before in
-    let size = read .before .before in
-    answered _ _ _ _ _ _ (size .least2 .ensures) (size .before .least .ensures) (read .kept-call .ensures) (made .left .given .1) (c .before .before .add-flat .ensures)
+    let known = c .before .before .before .before .before in
+    made (known .before .before) (known .left .given .1) (c .before .before .add-flat .ensures)
 
 returns-6 : tie.Need-returns-6
 returns-6 c =
-    let made = c .before .before .before .before .before in
-    let read = made .before .before in
-    let size = read .before .before in
-    answered _ _ _ _ _ _ (size .least2 .ensures) (size .before .least .ensures) (read .kept-call .ensures) (made .a .given .1) (c .before .before .add-implication .ensures)
+    let known = c .before .before .before .before .before in
+    made (known .before .before) (known .a .given .1) (c .before .before .add-implication .ensures)
 
 returns-7 : tie.Need-returns-7
 returns-7 c =
-    let made = c .before .before .before .before .before in
-    let read = made .before .before in
-    let size = read .before .before in
-    answered _ _ _ _ _ _ (size .least2 .ensures) (size .before .least .ensures) (read .kept-call .ensures) (made .goal .given .1) (c .before .before .ask .ensures)
+    let known = c .before .before .before .before .before in
+    made (known .before .before) (known .goal .given .1) (c .before .before .ask .ensures)
 
 returns-8 : tie.Need-returns-8
 returns-8 c =
-    let made = c .before .before .before .before in
-    let read = made .before .before in
-    let size = read .before .before in
-    answered _ _ _ _ _ _ (size .least2 .ensures) (size .before .least .ensures) (read .kept-call .ensures) (made .enum-told3 .given .1) (_, (refl, refl), c .before .before .write-length .ensures)
+    let known = c .before .before .before .before in
+    made (known .before .before) (known .enum-told3 .given .1) (_, (refl, refl), c .before .before .write-length .ensures)
 
 returns-9 : tie.Need-returns-9
 returns-9 c =
-    let made = c .before .before .before .before in
-    let read = made .before .before in
-    let size = read .before .before in
-    answered _ _ _ _ _ _ (size .least2 .ensures) (size .before .least .ensures) (read .kept-call .ensures) (made .enum-told4 .given .1) (_, (refl, refl), c .before .before .write-sheet .ensures)
+    let known = c .before .before .before .before in
+    made (known .before .before) (known .enum-told4 .given .1) (_, (refl, refl), c .before .before .write-sheet .ensures)
 
 returns-10 : tie.Need-returns-10
 returns-10 c =
-    let made = c .before .before .before .before .before in
-    let read = made .before .before in
-    let size = read .before .before in
-    answered _ _ _ _ _ _ (size .least2 .ensures) (size .before .least .ensures) (read .kept-call .ensures) (made .start2 .given .1) (_, (refl, refl), c .before .before .check .ensures)
+    let known = c .before .before .before .before .before in
+    made (known .before .before) (known .start2 .given .1) (_, (refl, refl), c .before .before .check .ensures)
 
 pub answer-line-spec : {M : Type 1} → statement M
 answer-line-spec =
