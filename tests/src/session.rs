@@ -6,9 +6,6 @@ use crate::reader::read;
 use crate::refusal::Refusal;
 use crate::search::{settle_after, Answer, Step, Verdict};
 
-/// The most bytes that the steps or the worlds of a certificate take.
-const MOST_CLAIM_BYTES: usize = 4_608;
-
 pub struct Session {
     /// The clauses held; the goal is that of the last verdict, at first that of the text.
     problem: Problem,
@@ -86,9 +83,13 @@ impl Session {
         Ok(Answer { verdict, steps: self.steps.clone(), questions: self.questions })
     }
 
-    /// A length that no sheet of these clauses exceeds.
-    pub fn length_told(&self) -> usize {
-        39 + 16 * self.problem.flats.len() + 3 * self.problem.implications.len() + MOST_CLAIM_BYTES
+    /// The length of the sheet of the verdict held, by the counts.
+    pub fn length_told(&self) -> Result<usize, Refusal> {
+        let claim = match &self.answer()?.verdict {
+            Verdict::Valid => 9 * self.steps.len(),
+            Verdict::Refuted(worlds) => 8 * worlds.len(),
+        };
+        Ok(39 + 16 * self.problem.flats.len() + 3 * self.problem.implications.len() + claim)
     }
 
     pub fn sheet(&self) -> Result<Vec<u8>, Refusal> {
@@ -135,7 +136,7 @@ mod tests {
         assert_eq!(refusal(session.add_implication(NOT_FALSE)), 8);
         assert_eq!(refusal(session.add_implication(Implication { b: 0, ..NOT_FALSE })), 7);
         assert_eq!(refusal(session.add_implication(Implication { a: FALSE, b: 0, c: 0 })), 6);
-        assert_eq!(session.length_told(), 13_223);
+        assert_eq!(refusal(session.length_told()), 9);
     }
 
     #[test]
@@ -146,6 +147,7 @@ mod tests {
         assert_eq!((answer.verdict, answer.questions, answer.steps.len()), (Verdict::Valid, 3, 1));
         let sheet = session.sheet().expect("a sheet");
         assert_eq!((sheet.len(), verdict_line(&sheet)), (83, "accepted valid\n".into()));
+        assert_eq!(session.length_told().expect("a length"), 83);
         assert_eq!(refusal(session.ask(2)), 6);
         assert_eq!(refusal(session.add_flat(Flat { left: 4, right: 0 })), 6);
         assert_eq!(session.sheet(), Ok(sheet));

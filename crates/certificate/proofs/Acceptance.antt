@@ -5,7 +5,7 @@ use mathlib.Core.List.{List}
 use mathlib.Core.Logic.{_↔_}
 use mathlib.Core.Option.{Option, none, some}
 use mathlib.Core.Path.{_≡_, refl, ap, ap₂, _∙_, subst}
-use Prim.Native.Nat.{ℕ, _^_, _≤_, _<_, min}
+use Prim.Native.Nat.{ℕ, _^_, _≤_, _<_}
 use native.Mathlib.Omega.{arith}
 use lib.Dec.{T, ltb, ltb→lt}
 use lib.ListN.{length}
@@ -14,7 +14,7 @@ use Rattle.atoms.proofs.Bytes.{set-fits}
 use Rattle.atoms.proofs.Machine.{limit-small}
 use Rattle.ipl.specs.Lists.{All}
 use Rattle.ipl.specs.Clause.{closed}
-use Rattle.ipl.specs.Range.{flatTable, implicationTable, setInRange}
+use Rattle.ipl.specs.Range.{setInRange}
 use Rattle.ipl.specs.Search.{Step, stepInRange}
 use Rattle.ipl.specs.Kripke.{Model, IsModel, forcesAtom, ForcesFlat, ForcesImplication, shown}
 use Rattle.ipl.specs.Claim.{Countermodel}
@@ -23,12 +23,12 @@ use Rattle.ipl.proofs.Range.{flat-below, implication-below, atom-or-bot}
 use Rattle.ipl.proofs.Steps.{derivation-forced}
 use Rattle.ipl.proofs.PropositionTwo.{refuting-countermodel}
 use Rattle.certificate.specs.Certificate.{Problem, Claim, valid, refuted, Judgement, accepted, refused}
-use Rattle.certificate.specs.Format.{refutes, rowsOf, claimLeast, encode, encodedLength, bound, longest}
+use Rattle.certificate.specs.Format.{refutes, rowsOf, claimLeast, encode}
 use Rattle.certificate.specs.Layout.{laidOut, problemOf, claimOf}
 use Rattle.certificate.specs.Judge.{inRange, allClosed, wrongPlace, judgeClaim, judgeRead, judge}
 use Rattle.certificate.specs.Accepted.{Bytes, ClaimRight, Right, Addressed, Refusal, layout, range, closing, claim}
-use Rattle.certificate.proofs.InRange.{range-parts, steps-ranged, worlds-ranged, range-bound}
-use Rattle.certificate.proofs.Encoding.{FlatFits, ClaimFits, encode-laid, problem-back, claim-back, encode-length}
+use Rattle.certificate.proofs.InRange.{range-parts, steps-ranged, worlds-ranged}
+use Rattle.certificate.proofs.Encoding.{FlatFits, ClaimFits, encode-laid, problem-back, claim-back}
 use Rattle.certificate.proofs.Decoding.{encode-back, addressed-back}
 use Rattle.certificate.proofs.Claims.{derivation-iff, worlds-iff}
 
@@ -164,21 +164,3 @@ accepted-refuted s bytes p W e =
     let t = range-parts p (refuted W) (r .range) in
     refuting-countermodel (p .n) (omega (arith, t .few, limit-small)) W (All-map W (set-below (p .n)) (worlds-ranged (p .n) (length (p .implications)) W (t .claim) .0))
     (p .flats) (p .implications) (p .goal) (r .claim .refuting) (r .closings)
-
--- ---- the length
-
--- "A length that the sheet never exceeds."
-pub length-bound : (p : Problem) (c : Claim) → Right p c
-    → (length (encode p c) ≡ encodedLength p c) × (length (encode p c) ≤ bound (length (p .flats)) (length (p .implications)))
-length-bound p c r =
-    let e = encode-length p c in
-    (e, omega (arith, e, range-bound p c (r .range)))
-
--- The length that the code tells.
-pub length-told : (p : Problem) (c : Claim) → Right p c → length (encode p c) ≤ longest (length (p .flats)) (length (p .implications))
-unfolding longest
-length-told p c r =
-    let t = range-parts p c (r .range) in
-    let f : length (p .flats) ≡ min (length (p .flats)) flatTable = omega (arith, t .flat-count) in
-    let x : length (p .implications) ≡ min (length (p .implications)) implicationTable = omega (arith, t .implication-count) in
-    subst (λ (z : ℕ). length (encode p c) ≤ z) (ap₂ bound f x) (length-bound p c r .1)

@@ -16,7 +16,7 @@ use Rattle.ipl.specs.Book.{countInRange}
 use Rattle.ipl.proofs.Lists.{all-All, All-all, All-map}
 use Rattle.ipl.proofs.Range.{implication-below, implication-in-range}
 use Rattle.certificate.specs.Certificate.{Problem, Claim, valid, refuted}
-use Rattle.certificate.specs.Format.{stepBytes, refutes, rowsOf, claimWidth, encodedLength, bound, longestAccepted}
+use Rattle.certificate.specs.Format.{stepBytes, refutes, rowsOf, claimWidth, encodedLength, longestAccepted}
 use Rattle.certificate.specs.Judge.{claimInRange, countsInRange, inRange}
 
 pub record RangeParts (p : Problem) (c : Claim) : Type 0 where
@@ -115,14 +115,9 @@ unfolding refutes rowsOf
 claim-small n m (valid S) t = omega (arith, steps-ranged n m S t .1)
 claim-small n m (refuted W) t = omega (arith, worlds-ranged n m W t .1)
 
--- "A length that the sheet never exceeds", of whatever is in range.
-pub range-bound : (p : Problem) (c : Claim) → T (inRange p c) → encodedLength p c ≤ bound (length (p .flats)) (length (p .implications))
-unfolding encodedLength bound
-range-bound p c t = omega (arith, claim-small (p .n) (length (p .implications)) c (range-parts p c t .claim))
-
 -- "At most 13,223."
 pub range-longest : (p : Problem) (c : Claim) → T (inRange p c) → encodedLength p c ≤ longestAccepted
-unfolding bound
+unfolding encodedLength
 range-longest p c t =
     let r = range-parts p c t in
-    omega (arith, range-bound p c t, r .flat-count, r .implication-count)
+    omega (arith, claim-small (p .n) (length (p .implications)) c (r .claim), r .flat-count, r .implication-count)

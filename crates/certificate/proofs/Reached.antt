@@ -19,12 +19,12 @@ use Rattle.ipl.proofs.Limits.{Fits, search-fits}
 use Rattle.ipl.proofs.Book.{Reached, goal-unrefused, opened-reached, after-reached}
 use Rattle.certificate.specs.Certificate as certificate
 use Rattle.certificate.specs.Certificate.{Claim, accepted}
-use Rattle.certificate.specs.Format.{encode, longest}
+use Rattle.certificate.specs.Format.{encode}
 use Rattle.certificate.specs.Judge.{claimInRange, inRange, judge}
 use Rattle.certificate.specs.Written.{problemOfBook, claimOfVerdict}
 use Rattle.certificate.specs.Accepted.{Right}
 use Rattle.certificate.proofs.InRange.{range-of}
-use Rattle.certificate.proofs.Acceptance.{encode-accepted, length-told}
+use Rattle.certificate.proofs.Acceptance.{encode-accepted}
 
 -- ---- right claims
 
@@ -95,10 +95,3 @@ pub verdict-accepted : (n : ℕ) (cs : List Call) (g : ℕ) (c : Claim) → clai
 verdict-accepted n cs g c e =
     let k = after (opened n) cs in
     encode-accepted (problemOfBook k g) c (reached-right k (after-reached cs (opened n) (opened-reached n)) g c e)
-
--- It is no longer than the length told.
-pub verdict-length : (n : ℕ) (cs : List Call) (g : ℕ) (c : Claim) → claimOfVerdict (after (opened n) cs) (answer (after (opened n) cs) g) ≡ some c
-    → length (encode (problemOfBook (after (opened n) cs) g) c) ≤ longest (length (after (opened n) cs .flats)) (length (after (opened n) cs .implications))
-verdict-length n cs g c e =
-    let k = after (opened n) cs in
-    length-told (problemOfBook k g) c (reached-right k (after-reached cs (opened n) (opened-reached n)) g c e)

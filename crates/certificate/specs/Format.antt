@@ -1,11 +1,10 @@
 -- The bytes of a certificate: "Contents first, then the bodies .. in order, without gaps, to the end."
 use mathlib.Core.Bool.{Bool, true, false}
 use mathlib.Core.List.{List, [], _∷_, _++_}
-use Prim.Native.Nat.{ℕ, _+_, _*_, min}
+use Prim.Native.Nat.{ℕ, _+_, _*_}
 use lib.ListN.{length}
 use Rattle.atoms.specs.Bytes.{digits}
 use Rattle.ipl.specs.Clause.{Flat, Implication}
-use Rattle.ipl.specs.Range.{flatTable, implicationTable}
 use Rattle.ipl.specs.Search.{Step}
 use Rattle.certificate.specs.Certificate.{Problem, Claim, valid, refuted}
 
@@ -144,14 +143,6 @@ encode p c = contents (length (p .flats)) (length (p .implications)) (refutes c)
 -- Its length.
 unfoldable pub encodedLength : Problem → Claim → ℕ
 encodedLength p c = totalLength (length (p .flats)) (length (p .implications)) (refutes c) (rowsOf c)
-
--- "A length that the sheet never exceeds: 39 + 16 × flat + 3 × implications + 4,608."
-unfoldable pub bound : ℕ → ℕ → ℕ
-bound F X = 39 + 16 * F + 3 * X + 4608
-
--- The same for any counts: those past their tables count as full tables.
-unfoldable pub longest : ℕ → ℕ → ℕ
-longest F X = bound (min F flatTable) (min X implicationTable)
 
 -- "At most 13,223": no longer one is accepted.
 abbrev pub longestAccepted : ℕ

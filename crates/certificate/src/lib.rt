@@ -1,8 +1,6 @@
 // Certificates (document 01: answer sheets): read, judged, and read back.
 use atoms::AtomSet;
 ghost use mathlib.Core.Path.{_≡_};
-ghost use Prim.Native.Nat.{min};
-ghost use Rattle.certificate.specs.Format.{longest};
 ghost use Rattle.certificate.specs.Judge.{judge, judgeRead, wrongPlace};
 ghost use Rattle.certificate.specs.Checked.{judgementOf, BeginningChecked, problemBy, claimBy, Sized, Ranged, placeOf};
 
@@ -116,23 +114,4 @@ fn wrong_place(bytes: &[u8], k: Contents) -> Wrong
     } else {
         derivation::wrong_step(bytes, k)
     }
-}
-
-fn at_most(x: usize, most: usize) -> usize
-    ensures { λ r. ⌜ r ≡ min x most ⌝ }
-{
-    if x < most { x } else { most }
-}
-
-// A length that no certificate with so many flat clauses and implications exceeds.
-pub fn length_bound(flats: usize, implications: usize) -> usize
-    ensures { λ r. ⌜ r ≡ longest flats implications ⌝ }
-{
-    let k = Contents {
-        flats: at_most(flats, ipl::FLATS) as u32,
-        implications: at_most(implications, ipl::IMPLICATIONS) as u32,
-        refuting: false,
-        rows: ipl::STEPS as u32,
-    };
-    k.length()
 }

@@ -12,18 +12,25 @@ use borrow.Author.Tests.{leb-true, leb-false}
 use Rattle.atoms.proofs.Bytes.{put-past, drop-put}
 use Rattle.prover.specs.InRange.{inRange}
 use Rattle.prover.specs.declared.Session.{Session}
-use Rattle.certify.specs.Held.{Certificate, bytesOf, certificateHeld}
+use Rattle.certificate.proofs.Encoding.{encode-length}
+use Rattle.certify.specs.Held.{Certificate, bytesOf, lengthOf, certificateHeld}
 use Rattle.certify.specs.Written.{WrittenAs, Written}
 use Rattle.certify.specs.declared.Length.{Length}
 use Rattle.certify.specs.declared.Length.the-variants.{Bytes, Refused}
+
+pub bytes-counted : (x : Certificate) → length (bytesOf x) ≡ lengthOf x
+bytes-counted x = encode-length (x .problem) (x .claim)
 
 module _ (x : Certificate) (before : List ℕ) (r : Length) (after : List ℕ) (w : WrittenAs (some x) before r after) where
   abbrev size : ℕ
   size = length (bytesOf x)
 
+  pub answer-counted : r ≡ cond (leb size (length before)) (Bytes size) (Refused 10)
+  answer-counted = w .answer ∙ ap (λ (n : ℕ). cond (leb n (length before)) (Bytes n) (Refused 10)) (sym (bytes-counted x))
+
   -- The answer, once it is known whether the certificate fits.
   answer-is : (b : Bool) → leb size (length before) ≡ b → r ≡ cond b (Bytes size) (Refused 10)
-  answer-is b e = w .answer ∙ ap (λ (z : Bool). cond z (Bytes size) (Refused 10)) e
+  answer-is b e = answer-counted ∙ ap (λ (z : Bool). cond z (Bytes size) (Refused 10)) e
 
   -- Where a length is given, the certificate fits and has that length.
   pub length-given : (n : ℕ) → r ≡ Bytes n → (size ≡ n) × (size ≤ length before)

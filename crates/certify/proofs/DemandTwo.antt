@@ -1,22 +1,20 @@
 -- Demand 2: "every sheet written from a session opened by us and changed only through its calls is accepted and reads back as the
--- problem and answer it came from", and "no sheet is longer than the length told". What a call leaves to be written is right.
-use mathlib.Core.Bool.{Bool, true, false, cond}
+-- problem and answer it came from"; its length is told. What a call leaves to be written is right.
+use mathlib.Core.Bool.{Bool, true, cond}
 use mathlib.Core.List.{List, [], _∷_, map}
 use mathlib.Core.Option.{Option, none, some, orElse}
 use mathlib.Core.Path.{_≡_, refl, sym, ap, ap₂, _∙_, subst}
-use Prim.Native.Nat.{ℕ, _≤_}
+use Prim.Native.Nat.{ℕ}
 use native.Mathlib.Decide.{decLe}
 use native.Mathlib.Omega.{arith}
 use lib.Dec.{eqb}
-use lib.ListN.{length, take}
-use borrow.Author.Tests.{eq-eqb, ne-eqb, le-leb}
-use Rattle.ipl.specs.Clause.{Flat, Implication}
+use lib.ListN.{take}
+use borrow.Author.Tests.{eq-eqb, ne-eqb}
 use Rattle.ipl.specs.Search.{Outcome, valid, refuted, refused, unfinished}
 use Rattle.ipl.specs.Book as B
-use Rattle.ipl.specs.Book.{Book, Call, opened, answer, refusal, taken, stepsAfter, next}
-use Rattle.ipl.proofs.Lists.{tabulate-length}
+use Rattle.ipl.specs.Book.{Book, Call, opened, answer, refusal, taken, stepsAfter}
 use Rattle.ipl.proofs.Book.{Reached, opened-reached, next-reached}
-use Rattle.prover.specs.State.{flatsOf, implicationsOf, implicationRow, book}
+use Rattle.prover.specs.State.{book}
 use Rattle.prover.specs.InRange.{inRange}
 use Rattle.prover.specs.Calls.{number, NothingHeld, Added, AskedAs}
 use Rattle.prover.specs.Demand.{Made, addFlat, addImplication, question, callOf, Returned, sessionOf, Meets, Run}
@@ -25,19 +23,17 @@ use Rattle.prover.specs.declared.Held.the-variants as held
 use Rattle.prover.specs.declared.Session.{Session}
 use Rattle.prover.specs.declared.Changed.{Changed}
 use Rattle.prover.specs.declared.Answered.{Answered}
-use Rattle.prover.proofs.Refusals.{clauses-length}
-use Rattle.prover.proofs.DemandThree.{Kept, nothing-in-range, asked-as, call-kept}
+use Rattle.prover.proofs.DemandThree.{Kept, nothing-in-range, added-kept, asked-as, call-kept}
 use Rattle.certificate.specs.Certificate as certificate
-use Rattle.certificate.specs.Format.{bound}
 use Rattle.certificate.specs.Judge.{judge}
 use Rattle.certificate.specs.Written.{problemOfBook, claimOfVerdict}
 use Rattle.certificate.specs.Accepted.{Right}
-use Rattle.certificate.proofs.Acceptance.{encode-accepted, length-bound}
+use Rattle.certificate.proofs.Acceptance.{encode-accepted}
 use Rattle.certificate.proofs.Reached.{reached-right}
-use Rattle.certify.specs.Held.{Certificate, bytesOf, certificateOf, certificateHeld}
-use Rattle.certify.specs.Written.{WrittenAs}
-use Rattle.certify.specs.Demand.{withProblem, keeps, lastAnswer, endOf, CertificateWritten, WrittenFrom, WrittenAfter, DemandTwoWritten}
-use Rattle.certify.proofs.Buffer.{length-given}
+use Rattle.certify.specs.Held.{Certificate, bytesOf, certificateHeld}
+use Rattle.certify.specs.Written.{toldOf, lengthTold, WrittenAs}
+use Rattle.certify.specs.Demand.{withProblem, keeps, lastAnswer, endOf, WrittenFrom, WrittenAfter, DemandTwoWritten}
+use Rattle.certify.proofs.Buffer.{bytes-counted, length-given}
 use Rattle.certify.specs.declared.Length.{Length}
 use Rattle.certify.specs.declared.Length.the-variants.{Bytes, Refused}
 use Rattle.atoms.proofs.Bytes.{take-put}
@@ -76,23 +72,12 @@ module _ (s : Session) (x : Option Certificate) (h : Standing s x) where
     refused-same : (refusal (book s) c ≡ 0 → ⊥) → u .session ≡ s
     refused-same d = a .unchanged (λ e. d (sym met ∙ e))
 
-    pub added-book : book (u .session) ≡ next (book s) c
-    unfolding next
-    added-book = elim (decLe (refusal (book s) c) 0) [
-      | yes l ↦
-          let e : refusal (book s) c ≡ 0 = omega arith in
-          a .holds (met ∙ e) ∙ rw (eq-eqb (refusal (book s) c) 0 e)
-      | no l ↦
-          let d : refusal (book s) c ≡ 0 → ⊥ = λ e. omega arith in
-          ap book (refused-same d) ∙ rw (ne-eqb (refusal (book s) c) 0 d)
-    ]
-
     pub added : Standing (u .session) (cond (eqb (refusal (book s) c) 0) none x)
     added = elim (decLe (refusal (book s) c) 0) [
       | yes l ↦
           let e : refusal (book s) c ≡ 0 = omega arith in
-          let reached : Reached (book (u .session)) = subst Reached (sym added-book) (next-reached (book s) c (h .reached)) in
-          rw (eq-eqb (refusal (book s) c) 0 e) (nothing-stands (u .session) reached (a .nothing (met ∙ e)))
+          let kept = added-kept s (h .in-range) (h .reached) c u a in
+          rw (eq-eqb (refusal (book s) c) 0 e) (after-call c (u .session) kept none (ap (certificateHeld (u .session)) (a .nothing (met ∙ e) .no-verdict)) tt)
       | no l ↦
           let d : refusal (book s) c ≡ 0 → ⊥ = λ e. omega arith in
           rw (ne-eqb (refusal (book s) c) 0 d) (subst (λ (v : Session). Standing v x) (sym (refused-same d)) h)
@@ -130,46 +115,18 @@ run-stands (c ∷ cs) s x h run =
 
 -- ---- what is written of it
 
--- The bound for as many clauses as the book has is the length told.
-pub told-for-book : (s : Session) → bound (length (book s .flats)) (length (book s .implications)) ≡ bound (s .flats .count) (s .implications .count)
-told-for-book s =
-    ap₂ bound (clauses-length (s .flats .left) (s .flats .right) (s .flats .count)) (tabulate-length (implicationRow (s .implications)) (s .implications .count))
-
--- The clauses of a certificate are those held.
-told-for : (s : Session) (x : Certificate) → x .problem .flats ≡ flatsOf (s .flats) → x .problem .implications ≡ implicationsOf (s .implications)
-    → bound (length (x .problem .flats)) (length (x .problem .implications)) ≡ bound (s .flats .count) (s .implications .count)
-told-for s x f i = ap₂ (λ (F : List Flat) (X : List Implication). bound (length F) (length X)) f i ∙ told-for-book s
-
-told-held : (s : Session) (v : Held) (x : Certificate) → certificateHeld s v ≡ some x
-    → bound (length (x .problem .flats)) (length (x .problem .implications)) ≡ bound (s .flats .count) (s .implications .count)
-told-held s held.Nothing x e = let z : _≡_ {A = ℕ} 0 1 = cc in absurd (omega arith)
-told-held s (held.Valid g) x e = let same : certificateOf s g false ≡ x = cc in told-for s x (ap (λ y. y .problem .flats) (sym same)) (ap (λ y. y .problem .implications) (sym same))
-told-held s (held.Refuted g) x e = let same : certificateOf s g true ≡ x = cc in told-for s x (ap (λ y. y .problem .flats) (sym same)) (ap (λ y. y .problem .implications) (sym same))
-
-module _ (s : Session) (x : Certificate) (h : Standing s (some x)) (before : List ℕ) (r : Length) (after : List ℕ) (w : WrittenAs (some x) before r after) where
-  abbrev size : ℕ
-  size = length (bytesOf x)
-
-  abbrev told : ℕ
-  told = bound (s .flats .count) (s .implications .count)
-
-  no-longer-than-told : size ≤ told
-  no-longer-than-told = subst (λ (z : ℕ). size ≤ z) (told-held s (s .held) x (h .held-is)) (length-bound (x .problem) (x .claim) (h .right) .1)
-
-  certificate-written : CertificateWritten s x before r after
-  certificate-written = record {
-    accepted-back = λ n e.
-        let l = length-given x before r after w n e in
-        ap judge (ap₂ (λ (m : ℕ) (b : List ℕ). take m b) (sym (l .0)) (w .buffer) ∙ take-put before (bytesOf x) (l .1)) ∙ encode-accepted (x .problem) (x .claim) (h .right);
-    told = told;
-    told-is = ap (λ (b : Bool). cond b (Bytes told) (Refused 5)) (h .in-range);
-    no-longer = λ n e. omega (arith, length-given x before r after w n e .0, no-longer-than-told);
-    enough = λ room. (size, w .answer ∙ ap (λ (b : Bool). cond b (Bytes size) (Refused 10)) (le-leb size (length before) (omega (arith, no-longer-than-told))));
-  }
+-- The length told is that of what stands.
+told-standing : (s : Session) (x : Option Certificate) → Standing s x → lengthTold s ≡ toldOf x
+told-standing s x h = ap (λ (b : Bool). cond b (toldOf (certificateHeld s (s .held))) (Refused 5)) (h .in-range) ∙ ap toldOf (h .held-is)
 
 written-from : (s : Session) (x : Option Certificate) → Standing s x → (before : List ℕ) (r : Length) (after : List ℕ) → WrittenAs x before r after → WrittenFrom s x before r after
-written-from s none h before r after w = w .answer
-written-from s (some x) h before r after w = certificate-written s x h before r after w
+written-from s none h before r after w = (w .answer, told-standing s none h)
+written-from s (some x) h before r after w = record {
+  accepted-back = λ n e.
+      let l = length-given x before r after w n e in
+      ap judge (ap₂ (λ (m : ℕ) (b : List ℕ). take m b) (sym (l .0)) (w .buffer) ∙ take-put before (bytesOf x) (l .1)) ∙ encode-accepted (x .problem) (x .claim) (h .right);
+  told = told-standing s (some x) h ∙ ap Bytes (sym (bytes-counted x));
+}
 
 -- From a session that holds a reached book and no verdict.
 pub written-after : {total : ℕ} (k : Book) → Reached k → (s : Session) → book s ≡ k → NothingHeld total s → WrittenAfter k s

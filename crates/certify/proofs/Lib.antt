@@ -3,4 +3,5 @@ pub mod Bodies
 pub mod Parts
 pub mod Whole
 pub mod Buffer
+pub mod Told
 pub mod DemandTwo

@@ -3,13 +3,13 @@ use mathlib.Core.Bool.{Bool, true, false, cond, true≢false}
 use mathlib.Core.List.{List, [], _∷_, _++_}
 use mathlib.Core.Option.{some}
 use mathlib.Core.Path.{_≡_, refl, sym, ap, ap₂, _∙_, subst}
-use Prim.Native.Nat.{ℕ, _+_, _*_, _≤_, _<_, min}
+use Prim.Native.Nat.{ℕ, _+_, _*_, _≤_, _<_}
 use native.Mathlib.Omega.{arith}
 use lib.ListN.{length, length-append}
 use borrow.Author.Tests.{le-leb, lt-leb}
 use Rattle.atoms.specs.Words.{rowOf}
 use Rattle.atoms.specs.Bytes.{digits, putAt}
-use Rattle.ipl.specs.Range.{flatTable, implicationTable, stepTable}
+use Rattle.ipl.specs.Range.{stepTable}
 use Rattle.ipl.proofs.Lists.{tabulate-length}
 use Rattle.prover.specs.State as S
 use Rattle.prover.specs.State.{flatsOf, implicationsOf, book}
@@ -21,13 +21,13 @@ use Rattle.prover.specs.declared.Held.the-variants as held
 use Rattle.prover.specs.declared.Session.{Session}
 use Rattle.certificate.specs.Certificate.{Problem, Claim}
 use Rattle.certificate.specs.Format.{flatBytes, implicationBytes, each, flatRow, implicationRow, claimRows, refutes, rowsOf, claimWidth}
-use Rattle.certificate.specs.Format.{bodiesStart, flatStart, implicationStart, goalStart, claimStart, totalLength, entryRow, contents, bodies, encode, encodedLength, bound, longest}
+use Rattle.certificate.specs.Format.{bodiesStart, flatStart, implicationStart, goalStart, claimStart, totalLength, entryRow, contents, bodies, encode, encodedLength}
 use Rattle.certificate.specs.Written.{problemOfBook}
 use Rattle.certificate.specs.declared.Contents.{Contents}
 use Rattle.certificate.proofs.Encoding.{length-each, length-flat, length-implication, length-claim, encode-length}
-use Rattle.certify.specs.Held.{Certificate, bytesOf, claimHeld, certificateOf, certificateHeld}
+use Rattle.certify.specs.Held.{Certificate, bytesOf, lengthOf, claimHeld, certificateOf, certificateHeld}
 use Rattle.certify.specs.Writing.{rowsHeld, contentsHeld}
-use Rattle.certify.specs.Written.{lengthTold, WrittenAs, Written}
+use Rattle.certify.specs.Written.{WrittenAs, Written}
 use Rattle.certify.specs.declared.Length.{Length}
 use Rattle.certify.specs.declared.Length.the-variants.{Bytes, Refused}
 use Rattle.atoms.proofs.Bytes.{put-past, put-next}
@@ -52,14 +52,6 @@ few-rows s h false = steps-count s h .0
 pub contents-as : (s : Session) (r : Bool) (rows : ℕ) → rows ≡ rowsHeld s r
     → _≡_ {A = Contents} (record { flats = s .flats .count; implications = s .implications .count; refuting = r; rows = rows }) (contentsHeld s r)
 contents-as s r rows e = ap {B = Contents} (λ (z : ℕ). record { flats = s .flats .count; implications = s .implications .count; refuting = r; rows = z }) e
-
--- "A length that the sheet never exceeds": counts in range are within their tables.
-pub told-in-range : (s : Session) (n : ℕ) → inRange s ≡ true → n ≡ longest (s .flats .count) (s .implications .count) → Bytes n ≡ lengthTold s
-unfolding longest
-told-in-range s n h e =
-    let f : min (s .flats .count) flatTable ≡ s .flats .count = omega (arith, few-flats s h) in
-    let x : min (s .implications .count) implicationTable ≡ s .implications .count = omega (arith, usable s h .count) in
-    ap Bytes (e ∙ ap₂ bound f x) ∙ sym (ap (λ t. cond t (Bytes (bound (s .flats .count) (s .implications .count))) (Refused 5)) h)
 
 -- Counts made of a session are its own: what the bodies want of their room.
 pub record Counted (s : Session) (k : Contents) : Type 0 where
@@ -88,6 +80,9 @@ module _ (s : Session) (g : ℕ) (r : Bool) (k : Contents) (same : k ≡ content
 
   abbrev contentsPut : List ℕ
   contentsPut = contents (k .flats) (k .implications) (k .refuting) (k .rows)
+
+  abbrev whole : ℕ
+  whole = lengthOf (certificateOf s g r)
 
   abbrev size : ℕ
   size = totalLength (k .flats) (k .implications) (k .refuting) (k .rows)
@@ -130,17 +125,20 @@ module _ (s : Session) (g : ℕ) (r : Bool) (k : Contents) (same : k ≡ content
   unfolding contents entryRow digits
   length-contents = refl
 
-  length-held : length (encode p c) ≡ size
+  pub length-counted : lengthOf (certificateOf s g r) ≡ size
   unfolding encodedLength
-  length-held = encode-length p c ∙ counts totalLength
+  length-counted = counts totalLength
+
+  length-held : length (encode p c) ≡ size
+  length-held = encode-length p c ∙ length-counted
 
   -- 10: the buffer has fewer bytes.
   pub too-long : (b : List ℕ) (n : ℕ) → n ≡ size → length b < n → WrittenAs (some (certificateOf s g r)) b (Refused 10) b
   too-long b n n-is h =
-      let more : length b < length (encode p c) = omega (arith, length-held) in
+      let more : length b < whole = omega (arith, length-counted) in
       record {
-        answer = sym (ap (λ t. cond t (Bytes (length (encode p c))) (Refused 10)) (lt-leb (length (encode p c)) (length b) more));
-        buffer = put-past b 0 (encode p c) (omega arith);
+        answer = sym (ap (λ t. cond t (Bytes whole) (Refused 10)) (lt-leb whole (length b) more));
+        buffer = put-past b 0 (encode p c) (omega (arith, length-held));
       }
 
   -- The contents, then the bodies.
@@ -149,12 +147,11 @@ module _ (s : Session) (g : ℕ) (r : Bool) (k : Contents) (same : k ≡ content
   whole-written b b1 b2 n n-is h e1 e2 =
       let own : k .refuting ≡ r = ap (λ (z : Contents). z .refuting) same in
       let put : b2 ≡ putAt b1 bodiesStart (bodies p c) = e2 ∙ ap (λ (t : Bool). putAt b1 bodiesStart (bodies p (claimHeld s t))) own in
-      let fits : length (encode p c) ≤ length b = omega (arith, length-held) in
-      let room : bodiesStart + length (bodies p c) ≤ length b = omega (arith, ap length encode-is, length-append contentsPut (bodies p c), length-contents) in
+      let fits : whole ≤ length b = omega (arith, length-counted) in
+      let room : bodiesStart + length (bodies p c) ≤ length b = omega (arith, length-held, ap length encode-is, length-append contentsPut (bodies p c), length-contents) in
       record {
         answer =
-            ap Bytes (n-is ∙ sym length-held)
-            ∙ sym (ap (λ t. cond t (Bytes (length (encode p c))) (Refused 10)) (le-leb (length (encode p c)) (length b) fits));
+            ap Bytes (n-is ∙ sym length-counted) ∙ sym (ap (λ t. cond t (Bytes whole) (Refused 10)) (le-leb whole (length b) fits));
         buffer = put-next b b1 b2 0 bodiesStart contentsPut (bodies p c) (omega (arith, length-contents)) room e1 put ∙ ap (putAt b 0) (sym encode-is);
       }
 

@@ -1,10 +1,10 @@
 -- Demand 2, what is written: "every sheet written from a session opened by us and changed only through its calls is accepted and
--- reads back as the problem and answer it came from"; "no sheet is longer than the length told".
+-- reads back as the problem and answer it came from"; the length told is that of the sheet.
 use mathlib.Core.Bool.{cond}
 use mathlib.Core.List.{List, [], _∷_, map}
 use mathlib.Core.Option.{Option, none, some, orElse}
 use mathlib.Core.Path.{_≡_}
-use Prim.Native.Nat.{ℕ, _≤_}
+use Prim.Native.Nat.{ℕ}
 use lib.Dec.{eqb}
 use lib.ListN.{length, take}
 use Rattle.ipl.specs.Book as B
@@ -16,7 +16,7 @@ use Rattle.prover.specs.declared.Changed.{Changed}
 use Rattle.certificate.specs.Certificate.{Claim, accepted}
 use Rattle.certificate.specs.Judge.{judge}
 use Rattle.certificate.specs.Written.{problemOfBook, claimOfVerdict}
-use Rattle.certify.specs.Held.{Certificate}
+use Rattle.certify.specs.Held.{Certificate, bytesOf}
 use Rattle.certify.specs.Written.{lengthTold, Written}
 use Rattle.certify.specs.declared.Length.{Length}
 use Rattle.certify.specs.declared.Length.the-variants.{Bytes, Refused}
@@ -46,16 +46,12 @@ endOf s (c ∷ cs) run = endOf (sessionOf c (run .0)) cs (run .2)
 pub record CertificateWritten (s : Session) (x : Certificate) (before : List ℕ) (r : Length) (after : List ℕ) : Type 0 where
   -- It "is accepted and reads back as the problem and answer it came from".
   pub accepted-back : (size : ℕ) → r ≡ Bytes size → judge (take size after) ≡ accepted (x .problem) (x .claim)
-  -- "A caller can learn beforehand a length":
-  pub told : ℕ
-  pub told-is : lengthTold s ≡ Bytes told
-  -- "no sheet is longer than the length told", and a buffer of that length is enough.
-  pub no-longer : (size : ℕ) → r ≡ Bytes size → size ≤ told
-  pub enough : told ≤ length before → (size : ℕ) × (r ≡ Bytes size)
+  -- "The length told must now be exactly that of the sheet."
+  pub told : lengthTold s ≡ Bytes (length (bytesOf x))
 
--- Nothing to write: refused 9.
+-- Nothing to write or to tell the length of: refused 9.
 abbrev pub WrittenFrom : Session → Option Certificate → List ℕ → Length → List ℕ → Type 0
-WrittenFrom s none before r after = r ≡ Refused 9
+WrittenFrom s none before r after = (r ≡ Refused 9) × (lengthTold s ≡ Refused 9)
 WrittenFrom s (some x) before r after = CertificateWritten s x before r after
 
 -- Of a session s that holds the book k and no verdict: what is written of the session at the end of any run of calls on it.

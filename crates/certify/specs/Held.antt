@@ -8,7 +8,7 @@ use Rattle.prover.specs.declared.Held.{Held}
 use Rattle.prover.specs.declared.Held.the-variants.{Nothing, Valid, Refuted}
 use Rattle.prover.specs.declared.Session.{Session}
 use Rattle.certificate.specs.Certificate.{Problem, Claim, valid, refuted}
-use Rattle.certificate.specs.Format.{encode}
+use Rattle.certificate.specs.Format.{encode, encodedLength}
 use Rattle.certificate.specs.Written.{problemOfBook}
 
 -- A problem and the claim made of it.
@@ -18,6 +18,10 @@ pub record Certificate : Type 0 where
 
 abbrev pub bytesOf : Certificate → List ℕ
 bytesOf x = encode (x .problem) (x .claim)
+
+-- How many they are.
+abbrev pub lengthOf : Certificate → ℕ
+lengthOf x = encodedLength (x .problem) (x .claim)
 
 -- "Either .. all held steps, or .. worlds": the worlds where it refutes.
 abbrev pub claimHeld : Session → Bool → Claim

@@ -2,4 +2,5 @@
 pub mod Held
 pub mod Writing
 pub mod Written
+pub mod Told
 pub mod Demand

@@ -9,19 +9,23 @@ use lib.ListN.{length}
 use Rattle.atoms.specs.Bytes.{putAt}
 use Rattle.prover.specs.InRange.{inRange}
 use Rattle.prover.specs.declared.Session.{Session}
-use Rattle.certificate.specs.Format.{bound}
-use Rattle.certify.specs.Held.{Certificate, bytesOf, certificateHeld}
+use Rattle.certify.specs.Held.{Certificate, bytesOf, lengthOf, certificateHeld}
 use Rattle.certify.specs.declared.Length.{Length}
 use Rattle.certify.specs.declared.Length.the-variants.{Bytes, Refused}
 
--- "A caller can learn beforehand a length that the sheet never exceeds"; 5 for a session out of range.
+-- "The length told must now be exactly that of the sheet of the verdict held. Without a verdict, 9 is returned."
+abbrev pub toldOf : Option Certificate → Length
+toldOf none = Refused 9
+toldOf (some x) = Bytes (lengthOf x)
+
+-- "5: .. before all else."
 abbrev pub lengthTold : Session → Length
-lengthTold s = cond (inRange s) (Bytes (bound (s .flats .count) (s .implications .count))) (Refused 5)
+lengthTold s = cond (inRange s) (toldOf (certificateHeld s (s .held))) (Refused 5)
 
 -- "9: no verdict held to write a sheet of; 10 (after 9): lent bytes fewer than the sheet has"; else its length.
 abbrev answerOf : Option Certificate → ℕ → Length
 answerOf none size = Refused 9
-answerOf (some x) size = cond (leb (length (bytesOf x)) size) (Bytes (length (bytesOf x))) (Refused 10)
+answerOf (some x) size = cond (leb (lengthOf x) size) (Bytes (lengthOf x)) (Refused 10)
 
 -- The certificate at the start where it fits; "bytes past a written sheet keep their contents". Else "nothing written".
 abbrev bufferAfter : Option Certificate → List ℕ → List ℕ

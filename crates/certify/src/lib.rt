@@ -13,12 +13,12 @@ pub enum Length {
     Refused(u8),
 }
 
-// A length that the certificate of the session never exceeds. Refused 5.
+// The length of the certificate of the verdict held. Refused 5, 9.
 pub fn length_told(s: Session) -> Length
     ensures { λ r. ⌜ r ≡ lengthTold s ⌝ }
 {
     if prover::in_range(s) {
-        Length::Bytes(certificate::length_bound(s.flats.count, s.implications.count))
+        sheet::told(s)
     } else {
         Length::Refused(5)
     }

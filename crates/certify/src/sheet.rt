@@ -4,20 +4,21 @@ use super::rows;
 use atoms::little_endian;
 use certificate::Contents;
 use certificate::places;
+use prover::Held;
 use prover::Session;
 ghost use mathlib.Core.Bool.{true};
 ghost use mathlib.Core.Option.{some};
 ghost use mathlib.Core.Path.{_≡_};
-ghost use Prim.Native.Nat.{_+_, _-_, _*_, _≤_, _<_};
+ghost use Prim.Native.Nat.{ℕ, _+_, _-_, _*_, _≤_, _<_};
 ghost use lib.ListN.{length};
 ghost use Rattle.atoms.specs.Bytes.{putAt};
 ghost use Rattle.prover.specs.State.{book};
 ghost use Rattle.prover.specs.InRange.{inRange};
 ghost use Rattle.certificate.specs.Format.{entries, entryStart, bodiesStart, claimRows, claimWidth, entryRow, contents, bodies};
 ghost use Rattle.certificate.specs.Written.{problemOfBook};
-ghost use Rattle.certify.specs.Held.{claimHeld, certificateOf};
+ghost use Rattle.certify.specs.Held.{lengthOf, claimHeld, certificateOf, certificateHeld};
 ghost use Rattle.certify.specs.Writing.{rowsHeld, contentsHeld, Fits};
-ghost use Rattle.certify.specs.Written.{WrittenAs};
+ghost use Rattle.certify.specs.Written.{toldOf, WrittenAs};
 
 // The start and the length in an entry.
 const ADDRESS_BYTES: usize = 4;
@@ -37,6 +38,28 @@ fn contents_of(s: Session, refuting: bool) -> Contents
         implications: s.implications.count as u32,
         refuting,
         rows: rows as u32,
+    }
+}
+
+// The length with the worlds or the steps held, whatever the goal.
+fn length(s: Session, refuting: bool) -> usize
+    requires { ⌜ inRange s ≡ true ⌝ }
+    ensures { λ r. ⌜ ((g : ℕ) → r ≡ lengthOf (certificateOf s g refuting)) ⌝ }
+{
+    let k = contents_of(s, refuting);
+    k.length()
+}
+
+// The length of the certificate of the verdict held. Refused 9.
+pub fn told(s: Session) -> Length
+    requires { ⌜ inRange s ≡ true ⌝ }
+    ensures { λ r. ⌜ r ≡ toldOf (certificateHeld s (s .held)) ⌝ }
+{
+    let held = s.held;
+    match held {
+        Held::Nothing => Length::Refused(9),
+        Held::Valid(_) => Length::Bytes(length(s, false)),
+        Held::Refuted(_) => Length::Bytes(length(s, true)),
     }
 }
 

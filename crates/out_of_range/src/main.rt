@@ -225,6 +225,7 @@ fn atom_counts_and_totals(s: Session) {
 }
 
 fn verdicts(s: Session) {
+    tried(b"valid of 2", with_held(s, Held::Valid(2)));
     tried(b"valid of 3", with_held(s, Held::Valid(3)));
     tried(b"refuted of 254", with_held(s, Held::Refuted(254)));
     tried(b"refuted of 255", with_held(s, Held::Refuted(ipl::BOTTOM)));

@@ -94,7 +94,7 @@ module _ (s : Session) (in-range : inRange s ≡ true) (r : Reached (book s)) wh
     added-answer : x .refusal ≡ refusal (book s) c
     added-answer = a .refused ∙ met
 
-    added-kept : Kept s c (x .session)
+    pub added-kept : Kept s c (x .session)
     unfolding next
     added-kept = elim (decLe (refusal (book s) c) 0) [
       | yes l ↦

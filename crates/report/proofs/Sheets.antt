@@ -12,13 +12,14 @@ use Rattle.syntax.specs.Judge.{Judgement}
 use Rattle.clausify.specs.Naming.{textBook, goalOf}
 use Rattle.clausify.proofs.TextBook.{text-reached}
 use Rattle.certificate.specs.Certificate.{Problem, Claim}
-use Rattle.certificate.specs.Format.{encode, encodedLength, bound}
+use Rattle.certificate.specs.Format.{encode, encodedLength}
 use Rattle.certificate.specs.Judge.{judge}
 use Rattle.certificate.specs.Accepted.{Right}
 use Rattle.certificate.specs.Written.{problemOfBook, claimOfVerdict}
-use Rattle.certificate.proofs.InRange.{range-parts}
+use Rattle.certificate.proofs.InRange.{range-longest}
 use Rattle.certificate.proofs.Reached.{reached-right}
-use Rattle.certificate.proofs.Acceptance.{encode-accepted, length-bound}
+use Rattle.certificate.proofs.Acceptance.{encode-accepted}
+use Rattle.certificate.proofs.Encoding.{encode-length}
 use Rattle.report.specs.Printed.{sheetBytes, sheetAs, sheet}
 use Rattle.report.specs.Sheets.{SheetAccepted}
 
@@ -44,9 +45,7 @@ by-sheet P empty right s = go (text.judge s)
 
 pub sheet-least : (s : List ℕ) → (sheet s ≡ []) ⊎ (39 ≤ length (sheet s))
 unfolding encodedLength
-sheet-least = by-sheet (λ l. (l ≡ []) ⊎ (39 ≤ length l)) (inl refl) (λ p c r. inr (omega (arith, length-bound p c r .0)))
+sheet-least = by-sheet (λ l. (l ≡ []) ⊎ (39 ≤ length l)) (inl refl) (λ p c r. inr (omega (arith, encode-length p c)))
 
 pub sheet-most : (s : List ℕ) → length (sheet s) ≤ 13223
-unfolding bound
-sheet-most = by-sheet (λ l. length l ≤ 13223) (omega arith)
-    (λ p c r. let t = range-parts p c (r .range) in omega (arith, length-bound p c r .1, t .flat-count, t .implication-count))
+sheet-most = by-sheet (λ l. length l ≤ 13223) (omega arith) (λ p c r. omega (arith, encode-length p c, range-longest p c (r .range)))

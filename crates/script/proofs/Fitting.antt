@@ -12,7 +12,7 @@ use lib.Seq.{take-all}
 use Rattle.atoms.proofs.Machine.{limit-small}
 use Rattle.atoms.proofs.Truth.{by-cond}
 use Rattle.ipl.specs.Clause.{bot, Flat, Implication}
-use Rattle.ipl.specs.Range.{flatTable, implicationTable, atomOrBot, flatInRange, implicationInRange}
+use Rattle.ipl.specs.Range.{implicationTable, atomOrBot, flatInRange, implicationInRange}
 use Rattle.ipl.specs.Book.{Book, Call, addFlat, addImplication, question, countInRange, openRefusal, flatsFull, flatRefusal, implicationRefusal, refusal}
 use Rattle.ipl.proofs.Range.{AtomOrBot, atom-or-bot}
 use Rattle.prover.specs.State.{book}
@@ -24,10 +24,10 @@ use Rattle.syntax.specs.Judge as text
 use Rattle.syntax.proofs.Judge.{judge-right}
 use Rattle.clausify.specs.Naming.{textBook, goalOf}
 use Rattle.clausify.proofs.TextBook.{text-book, goal-in-range, text-reached}
-use Rattle.certificate.specs.Format.{bound}
 use Rattle.certificate.proofs.InRange.{range-longest}
-use Rattle.certificate.proofs.Acceptance.{length-bound}
-use Rattle.certify.specs.Held.{Certificate, bytesOf, certificateHeld}
+use Rattle.certify.specs.Held.{Certificate, bytesOf, lengthOf, certificateHeld}
+use Rattle.certify.specs.Written.{toldOf}
+use Rattle.certify.proofs.Buffer.{bytes-counted}
 use Rattle.certify.proofs.DemandTwo.{IsRight}
 use Rattle.text.specs.Text.{ascii, labelled, hex}
 use Rattle.text.specs.Output.{longest, Appends}
@@ -104,13 +104,20 @@ text-fits s (text.accepted t) h =
 
 -- ---- sheets
 
-length-fits : (F X : ℕ) → F ≤ flatTable → X ≤ implicationTable → Fits (lengthLine (bound F X))
-unfolding ascii bound
-length-fits F X f x = omega (arith, length-append (labelled "length " (bound F X)) (ascii "\n"), labelled-length "length " 4 (bound F X) (omega arith))
+nine-fits : Fits (refusedLine 9)
+nine-fits = omega (arith, refusal-length false 0 0 9 0 (omega arith) (omega arith))
+
+length-fits : (x : Option Certificate) → IsRight x → Fits (lengthLine (toldOf x))
+unfolding ascii
+length-fits none right = nine-fits
+length-fits (some x) right =
+    let size = lengthOf x in
+    let few = range-longest (x .problem) (x .claim) (right .range) in
+    omega (arith, length-append (labelled "length " size) (ascii "\n"), labelled-length "length " 4 size (omega (arith, few)))
 
 sheet-fits : (x : Option Certificate) → IsRight x → Fits (sheetLine x)
 unfolding ascii
-sheet-fits none right = omega (arith, refusal-length false 0 0 9 0 (omega arith) (omega arith))
+sheet-fits none right = nine-fits
 sheet-fits (some x) right =
     let digits = hex (bytesOf x) in
     omega (
@@ -118,7 +125,7 @@ sheet-fits (some x) right =
       length-append (ascii "sheet " ++ digits) (ascii "\n"),
       length-append (ascii "sheet ") digits,
       hex-length (bytesOf x),
-      length-bound (x .problem) (x .claim) right .0,
+      bytes-counted x,
       range-longest (x .problem) (x .claim) (right .range),
     )
 
@@ -136,9 +143,7 @@ module _ (s : Session) (h : Stands s) where
   command-fits (openSession n) = changed-fits (openRefusal n) (open-number n)
   command-fits (readText t) = text-fits t (text.judge t) (judge-right t)
   command-fits (callBook c) = call-fits c
-  command-fits tellLength =
-      let formed = h .reached .well-formed in
-      length-fits (length (book s .flats)) (length (book s .implications)) (formed .flat-count) (formed .implication-count)
+  command-fits tellLength = length-fits (certificateHeld s (s .held)) (h .right)
   command-fits writeSheet = sheet-fits (certificateHeld s (s .held)) (h .right)
   command-fits (checkSheet bytes) = omega (arith, judgement-fits bytes)
 

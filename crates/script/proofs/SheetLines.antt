@@ -15,7 +15,7 @@ use Rattle.certify.specs.Held.{Certificate, bytesOf, certificateHeld}
 use Rattle.certify.specs.Written.{WrittenAs, Written}
 use Rattle.certify.specs.declared.Length.{Length}
 use Rattle.certify.specs.declared.Length.the-variants.{Bytes, Refused}
-use Rattle.certify.proofs.Buffer.{length-given}
+use Rattle.certify.proofs.Buffer.{answer-counted, length-given}
 use Rattle.certify.proofs.Whole.{held-short}
 use Rattle.text.specs.Output.{draft}
 use Rattle.script.specs.State.{refusedLine, digitsLine, sheetLine}
@@ -46,7 +46,7 @@ module _ (s : Session) (before : List ℕ) (l : Length) (after : List ℕ) (w : 
     of-none r none h v = let same : number ≡ 9 = cc in ap refusedLine same
     of-none r (some x) h v =
         let fits : leb (length (bytesOf x)) (length before) ≡ true = le-leb (length (bytesOf x)) (length before) (omega (arith, held-short s r (s .held) x h)) in
-        let other : Bytes (length (bytesOf x)) ≡ Refused number = sym (v .answer ∙ ap (λ b. cond b (Bytes (length (bytesOf x))) (Refused 10)) fits) ∙ e in
+        let other : Bytes (length (bytesOf x)) ≡ Refused number = sym (answer-counted x before l after v ∙ ap (λ b. cond b (Bytes (length (bytesOf x))) (Refused 10)) fits) ∙ e in
         let z : _≡_ {A = ℕ} 0 1 = cc in absurd (omega arith)
 
     pub sheet-refused : refusedLine number ≡ heldLine s

@@ -17,7 +17,7 @@ use Rattle.prover.specs.Demand as made
 use Rattle.prover.specs.declared.Session.{Session}
 use Rattle.prover.specs.declared.Changed.{Changed}
 use Rattle.prover.specs.declared.Answered.{Answered}
-use Rattle.prover.proofs.DemandThree.{asked-as, call-kept}
+use Rattle.prover.proofs.DemandThree.{added-kept, asked-as, call-kept}
 use Rattle.syntax.specs.Refusal.{Refused, line-1, line-2, line-3, line-4}
 use Rattle.syntax.specs.Judge as text
 use Rattle.syntax.proofs.Judge.{judge-right}
@@ -27,12 +27,12 @@ use Rattle.clausify.specs.declared.Clausified.{Clausified}
 use Rattle.clausify.proofs.TextBook.{text-reached}
 use Rattle.certify.specs.Held.{certificateHeld}
 use Rattle.certify.specs.Written.{lengthTold}
-use Rattle.certify.proofs.DemandTwo.{Standing, nothing-stands, added-book, added, called, told-for-book}
+use Rattle.certify.proofs.DemandTwo.{Standing, nothing-stands, added, called}
 use Rattle.report.specs.Report.{reportBy}
 use Rattle.report.proofs.Printed.{answer-printed}
 use Rattle.script.specs.Command.{Command, openSession, readText, callBook, tellLength, writeSheet, checkSheet, Line, silent, command, noCall}
 use Rattle.script.specs.State.{State, fresh, questionsAfter, next, changedLine, textLine, lengthLine, printedCall, printedCommand, printedLine, nextLine}
-use Rattle.script.specs.Answer.{clausifiedLine, toldLine, heldLine, CallDone, CommandDone, LineDone}
+use Rattle.script.specs.Answer.{clausifiedLine, heldLine, CallDone, CommandDone, LineDone}
 
 -- The state that a session is.
 abbrev pub stateOf : Session → State
@@ -108,7 +108,7 @@ module _ (s : Session) (h : Stands s) where
       → Reaches (afterAddition c) (changedLine (refusal (book s) c)) (r .session) (changedLine (r .refusal))
   added-reaches c r a =
       let x = certificateHeld s (s .held) in
-      reaches (ap changedLine (a .refused) ∙ rw (h .in-range)) (added-book s x h c r a) (added-total s (number s (refusal (book s) c)) (taken (book s) c) r a)
+      reaches (ap changedLine (a .refused) ∙ rw (h .in-range)) (added-kept s (h .in-range) (h .reached) c r a .0) (added-total s (number s (refusal (book s) c)) (taken (book s) c) r a)
       (added s x h c r a)
 
   asked-reaches : (g : ℕ) (r : Answered) → Asked s g r
@@ -121,8 +121,8 @@ module _ (s : Session) (h : Stands s) where
 
   -- ---- sheets
 
-  told-line : toldLine (lengthTold s) ≡ printedCommand (stateOf s) tellLength
-  told-line = rw (h .in-range) (ap lengthLine (sym (told-for-book s)))
+  told-line : lengthLine (lengthTold s) ≡ printedCommand (stateOf s) tellLength
+  told-line = rw (h .in-range)
 
   held-line : heldLine s ≡ printedCommand (stateOf s) writeSheet
   held-line = rw (h .in-range)

@@ -1,5 +1,5 @@
 -- The contract of the answer to a line, of any session: the next session and what is printed, through the contracts of the calls.
-use mathlib.Core.Bool.{Bool, true, false, cond}
+use mathlib.Core.Bool.{cond}
 use mathlib.Core.List.{List, []}
 use mathlib.Core.Path.{_≡_}
 use Prim.Native.Nat.{ℕ}
@@ -17,8 +17,6 @@ use Rattle.clausify.specs.declared.Clausified.{Clausified}
 use Rattle.certificate.specs.Judge as sheets
 use Rattle.certify.specs.Held.{certificateHeld}
 use Rattle.certify.specs.Written.{lengthTold}
-use Rattle.certify.specs.declared.Length.{Length}
-use Rattle.certify.specs.declared.Length.the-variants.{Bytes, Refused}
 use Rattle.text.specs.Output.{Appends}
 use Rattle.judgement.specs.Report.{checkReport}
 use Rattle.report.specs.Report.{textRefusal, reportBy}
@@ -29,10 +27,6 @@ use Rattle.script.specs.State.{refusedLine, changedLine, goalLine, lengt
 -- What is printed of the answers of the calls.
 abbrev pub clausifiedLine : ℕ → ℕ → ℕ → List ℕ
 clausifiedLine refusal place goal = cond (eqb refusal 0) (goalLine goal) (textRefusal refusal place)
-
-abbrev pub toldLine : Length → List ℕ
-toldLine (Bytes size) = lengthLine size
-toldLine (Refused number) = refusedLine number
 
 -- Of the sheet of a session; 5 for one out of range.
 abbrev pub heldLine : Session → List ℕ
@@ -50,7 +44,7 @@ abbrev pub CommandDone : Session → Command → Session → List ℕ → Type 0
 CommandDone s (openSession n) after printed = (r : Changed) × Opened n r × (after ≡ r .session) × (printed ≡ changedLine (r .refusal))
 CommandDone s (readText t) after printed = (r : Clausified) × ClausifiedAs (text.judge t) r × (after ≡ r .session) × (printed ≡ clausifiedLine (r .refusal) (r .place) (r .goal))
 CommandDone s (callBook c) after printed = CallDone s c after printed
-CommandDone s tellLength after printed = (after ≡ s) × (printed ≡ toldLine (lengthTold s))
+CommandDone s tellLength after printed = (after ≡ s) × (printed ≡ lengthLine (lengthTold s))
 CommandDone s writeSheet after printed = (after ≡ s) × (printed ≡ heldLine s)
 CommandDone s (checkSheet bytes) after printed = (after ≡ s) × (printed ≡ checkReport (sheets.judge bytes))
 

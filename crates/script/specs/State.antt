@@ -4,7 +4,6 @@ use mathlib.Core.List.{List, [], _++_}
 use mathlib.Core.Option.{Option, none, some}
 use Prim.Native.Nat.{ℕ}
 use lib.Dec.{eqb}
-use lib.ListN.{length}
 use Rattle.ipl.specs.Search.{Outcome, valid, refuted, refused, unfinished}
 use Rattle.ipl.specs.Book as B
 use Rattle.ipl.specs.Book.{Book, Call, addFlat, addImplication, question, opened, openRefusal, refusal, answer}
@@ -12,10 +11,12 @@ use Rattle.prover.specs.Calls.{totalAfter}
 use Rattle.syntax.specs.Judge as text
 use Rattle.clausify.specs.Naming.{goalOf}
 use Rattle.clausify.specs.Demand.{bookOf}
-use Rattle.certificate.specs.Format.{bound}
 use Rattle.certificate.specs.Judge as sheets
 use Rattle.certify.specs.Held.{Certificate, bytesOf}
+use Rattle.certify.specs.Written.{toldOf}
 use Rattle.certify.specs.Demand.{keeps}
+use Rattle.certify.specs.declared.Length.{Length}
+use Rattle.certify.specs.declared.Length.the-variants.{Bytes, Refused}
 use Rattle.text.specs.Text as T
 use Rattle.text.specs.Text.{ascii, labelled, hex}
 use Rattle.judgement.specs.Report.{checkReport}
@@ -73,9 +74,10 @@ abbrev pub textLine : text.Judgement → List ℕ
 textLine (text.refused number place) = textRefusal number place
 textLine (text.accepted t) = goalLine (goalOf t)
 
--- "`length N`."
-abbrev pub lengthLine : ℕ → List ℕ
-lengthLine size = labelled "length " size ++ ascii "\n"
+-- "`length N` or `refused K`."
+abbrev pub lengthLine : Length → List ℕ
+lengthLine (Bytes size) = labelled "length " size ++ ascii "\n"
+lengthLine (Refused number) = refusedLine number
 
 -- "`sheet HEX`, two small digits a byte; or `refused K`."
 abbrev pub digitsLine : List ℕ → List ℕ
@@ -94,7 +96,7 @@ abbrev pub printedCommand : State → Command → List ℕ
 printedCommand σ (openSession n) = changedLine (openRefusal n)
 printedCommand σ (readText s) = textLine (text.judge s)
 printedCommand σ (callBook c) = printedCall σ c
-printedCommand σ tellLength = lengthLine (bound (length (σ .book .flats)) (length (σ .book .implications)))
+printedCommand σ tellLength = lengthLine (toldOf (σ .answered))
 printedCommand σ writeSheet = sheetLine (σ .answered)
 printedCommand σ (checkSheet bytes) = checkReport (sheets.judge bytes)
 

@@ -19,8 +19,8 @@ ghost use Rattle.judgement.specs.Report.{checkReport};
 ghost use Rattle.script.specs.Numbers.{paired};
 ghost use Rattle.script.specs.Command.{openSession, readText, callBook};
 ghost use Rattle.script.specs.Places.{between};
-ghost use Rattle.script.specs.State.{changedLine, digitsLine};
-ghost use Rattle.script.specs.Answer.{clausifiedLine, toldLine, heldLine, CommandDone, Writes, lineRoom};
+ghost use Rattle.script.specs.State.{changedLine, lengthLine, digitsLine};
+ghost use Rattle.script.specs.Answer.{clausifiedLine, heldLine, CommandDone, Writes, lineRoom};
 ghost use Rattle.script.specs.Pieces.{Answers};
 
 // The session that the script goes on with, and how many bytes were written of what is printed.
@@ -58,7 +58,7 @@ fn write_clausified(refusal: u8, place: usize, goal: u8, output: &mut [u8]) -> u
 }
 
 fn write_length(s: Session, output: &mut [u8]) -> usize
-    ensures { λ r. ⌜ Appends (toldLine (lengthTold s)) (now (output .entry)) 0 (now (output .exit)) r ⌝ }
+    ensures { λ r. ⌜ Appends (lengthLine (lengthTold s)) (now (output .entry)) 0 (now (output .exit)) r ⌝ }
 {
     match certify::length_told(s) {
         Length::Bytes(size) => numbered(output, b"length ", size as u64, b"\n"),

@@ -1,4 +1,5 @@
--- The sheet written of a text's session is that of the text's verdict; without one the line of the refusal is given.
+-- The sheet written of a text's session is that of the text's verdict, and its length is told; without one the line of the refusal is
+-- given.
 use mathlib.Core.Bool.{Bool, true, false, cond}
 use mathlib.Core.List.{List, [], _∷_}
 use mathlib.Core.Option.{Option, none, some}
@@ -29,11 +30,11 @@ use Rattle.clausify.proofs.TextBook.{text-reached}
 use Rattle.certificate.specs.Certificate as claim
 use Rattle.certificate.specs.Format.{encode, contents}
 use Rattle.certificate.specs.Written.{problemOfBook, claimOfVerdict}
-use Rattle.certify.specs.Held.{Certificate, bytesOf, certificateHeld}
-use Rattle.certify.specs.Written.{WrittenAs, Written}
+use Rattle.certify.specs.Held.{Certificate, bytesOf, lengthOf, certificateHeld}
+use Rattle.certify.specs.Written.{toldOf, lengthTold, WrittenAs, Written}
 use Rattle.certify.specs.declared.Length.{Length}
 use Rattle.certify.specs.declared.Length.the-variants.{Bytes, Refused}
-use Rattle.certify.proofs.Buffer.{refused-unwritten}
+use Rattle.certify.proofs.Buffer.{bytes-counted, answer-counted, refused-unwritten}
 use Rattle.text.specs.Output.{Gives, Reported}
 use Rattle.report.specs.Report.{reportOf}
 use Rattle.report.specs.Printed.{printed, sheetBytes, sheetAs, sheet}
@@ -49,8 +50,8 @@ gives : (x : Option Certificate) (before after : List ℕ) (l : Length) → Writ
 gives none before after l w = record { output = w .buffer ∙ put-nothing before 0; fits = λ h. ap sizeOf (w .answer); short = λ h. ap sizeOf (w .answer) }
 gives (some x) before after l w = record {
   output = w .buffer;
-  fits = λ h. ap sizeOf (w .answer) ∙ rw (le-leb (length (bytesOf x)) (length before) h) refl;
-  short = λ h. ap sizeOf (w .answer) ∙ rw (lt-leb (length (bytesOf x)) (length before) h) refl;
+  fits = λ h. ap sizeOf (answer-counted x before l after w) ∙ rw (le-leb (length (bytesOf x)) (length before) h) refl;
+  short = λ h. ap sizeOf (answer-counted x before l after w) ∙ rw (lt-leb (length (bytesOf x)) (length before) h) refl;
 }
 
 -- ---- what the session of a text holds
@@ -93,19 +94,48 @@ settled-holds (judgement.accepted t) r (s, holds, asked) =
           ∙ ap (λ (g : ℕ). sheetBytes k g (claimOfVerdict k (answer k g))) (holds .goal),
     )
 
-module _ (s : List ℕ) (r : Settled) (h : SettledAs (judge s) r) (before after : List ℕ) (l : Length) (w : Written (r .session) before l after) where
+certified-is : (s b : List ℕ) → b ≡ sheet s → (b ≡ [] → ⊥) → certified s ≡ b
+unfolding certified
+certified-is s [] e d = absurd (d refl)
+certified-is s (b ∷ bytes) e d = ap (λ (l : List ℕ). orElse l (printed s)) (sym e)
+
+module _ (s : List ℕ) (r : Settled) (h : SettledAs (judge s) r) where
   abbrev heldNow : Option Certificate
   heldNow = certificateHeld (r .session) (r .session .held)
-
-  written-as : WrittenAs heldNow before l after
-  written-as = w .written (settled-holds (judge s) r h .0)
 
   bytes-are : bytesIn heldNow ≡ sheet s
   unfolding sheet
   bytes-are = settled-holds (judge s) r h .1
 
+  -- ---- the length told of it
+
+  told-is : lengthTold (r .session) ≡ toldOf heldNow
+  told-is = rw (settled-holds (judge s) r h .0) refl
+
+  pub told-certified : (n : ℕ) → lengthTold (r .session) ≡ Bytes n → n ≡ length (certified s)
+  unfolding encode contents
+  told-certified n e = go heldNow (sym told-is ∙ e) bytes-are
+    where
+      go : (x : Option Certificate) → toldOf x ≡ Bytes n → bytesIn x ≡ sheet s → n ≡ length (certified s)
+      go none t b = let z : _≡_ {A = ℕ} 0 1 = cc in absurd (omega arith)
+      go (some x) t b =
+          let size : lengthOf x ≡ n = cc in
+          sym (bytes-counted x ∙ size) ∙ ap length (sym (certified-is s (bytesOf x) b (λ n. let z : _≡_ {A = ℕ} 0 1 = cc in omega arith)))
+
+  pub untold-certified : (k : ℕ) → lengthTold (r .session) ≡ Refused k → printed s ≡ certified s
+  unfolding certified
+  untold-certified k e = go heldNow (sym told-is ∙ e) bytes-are
+    where
+      go : (x : Option Certificate) → toldOf x ≡ Refused k → bytesIn x ≡ sheet s → printed s ≡ certified s
+      go none t b = ap (λ (l : List ℕ). orElse l (printed s)) b
+      go (some x) t b = let z : _≡_ {A = ℕ} 0 1 = cc in absurd (omega arith)
+
+module _ (s : List ℕ) (r : Settled) (h : SettledAs (judge s) r) (before after : List ℕ) (l : Length) (w : Written (r .session) before l after) where
+  written-as : WrittenAs (heldNow s r h) before l after
+  written-as = w .written (settled-holds (judge s) r h .0)
+
   pub sheet-given : Gives (sheet s) before after (sizeOf l)
-  sheet-given = subst (λ (b : List ℕ). Gives b before after (sizeOf l)) bytes-are (gives heldNow before after l written-as)
+  sheet-given = subst (λ (b : List ℕ). Gives b before after (sizeOf l)) (bytes-are s r h) (gives (heldNow s r h) before after l written-as)
 
   -- ---- the sheet, or the line of the refusal
 
@@ -113,19 +143,14 @@ module _ (s : List ℕ) (r : Settled) (h : SettledAs (judge s) r) (before after 
   answered : (x : Option Certificate) → WrittenAs x before l after → bytesIn x ≡ sheet s → (l ≡ Refused 9 → sheet s ≡ []) × ((l ≡ Refused 9 → ⊥) → sheet s ≡ [] → ⊥)
   unfolding encode contents
   answered none a e = (λ _. sym e, λ d. absurd (d (a .answer)))
-  answered (some x) a e = (λ n. absurd (other (leb (length (bytesOf x)) (length before)) (sym (a .answer) ∙ n)), λ d n. let z : _≡_ {A = ℕ} 0 1 = cc in omega arith)
+  answered (some x) a e = (λ n. absurd (other (leb (length (bytesOf x)) (length before)) (sym (answer-counted x before l after a) ∙ n)), λ d n. let z : _≡_ {A = ℕ} 0 1 = cc in omega arith)
     where
       other : (b : Bool) → cond b (Bytes (length (bytesOf x))) (Refused 10) ≡ Refused 9 → ⊥
       other true n = let z : _≡_ {A = ℕ} 0 1 = cc in omega arith
       other false n = let z : _≡_ {A = ℕ} 9 10 = cc in omega arith
 
-  certified-is : (b : List ℕ) → b ≡ sheet s → (b ≡ [] → ⊥) → certified s ≡ b
-  unfolding certified
-  certified-is [] e d = absurd (d refl)
-  certified-is (b ∷ bytes) e d = ap (λ (l : List ℕ). orElse l (printed s)) (sym e)
-
   sheet-certified : (l ≡ Refused 9 → ⊥) → Gives (certified s) before after (sizeOf l)
-  sheet-certified d = rw (certified-is (sheet s) refl (answered heldNow written-as bytes-are .1 d)) sheet-given
+  sheet-certified d = rw (certified-is s (sheet s) refl (answered (heldNow s r h) written-as (bytes-are s r h) .1 d)) sheet-given
 
   pub written-certified : (n : ℕ) → l ≡ Bytes n → Gives (certified s) before after n
   written-certified n e =
@@ -139,5 +164,5 @@ module _ (s : List ℕ) (r : Settled) (h : SettledAs (judge s) r) (before after 
   unfolding certified
   refusal-certified k e nine exit n p =
       let none : l ≡ Refused 9 = e ∙ ap Refused nine in
-      rw (answered heldNow written-as bytes-are .0 none)
+      rw (answered (heldNow s r h) written-as (bytes-are s r h) .0 none)
       (subst (λ (b : List ℕ). Gives (printed s) b exit n) (refused-unwritten (r .session) before l after w 9 none) (report-given s r h p))

@@ -32,13 +32,15 @@ module _ (s : List ℕ) where
       go [] none some = none refl
       go (x ∷ b) none some = some (λ e. let z : _≡_ {A = ℕ} 0 1 = cc in omega arith)
 
-  -- A draft has room for it.
-  certified-fits : length (certified s) ≤ draft
+  -- "16,384 bytes are room for every answer."
+  pub certified-fits : length (certified s) ≤ draft
   unfolding longest
   certified-fits = by-sheet (λ l. length l ≤ draft) (λ _. omega (arith, printed-fits s)) (λ _. omega (arith, sheet-most s))
 
-  pub certified-size : (entry exit : List ℕ) (r : ℕ) → length entry ≡ draft → Gives (certified s) entry exit r → r ≡ length (certified s)
-  certified-size entry exit r e g = g .fits (omega (arith, certified-fits))
+  -- A draft has room for what is printed.
+  pub printed-size : (entry exit : List ℕ) (r : ℕ) → length entry ≡ draft → Gives (printed s) entry exit r → r ≡ length (printed s)
+  unfolding longest
+  printed-size entry exit r e g = g .fits (omega (arith, printed-fits s))
 
   -- "A length that tells the two apart": a sheet has at least 39 bytes, the line of a refusal fewer.
   pub refusal-shorter : sheet s ≡ [] → length (certified s) < 39

@@ -75,8 +75,14 @@ fn write_certified(settled: Settled, output: &mut [u8]) -> usize
 fn certified_length(text: &[u8]) -> usize
     ensures { λ r. ⌜ r ≡ length (certified (now (text .entry))) ⌝ }
 {
-    let mut draft = [0u8; text::DRAFT];
-    write_certified(clausify::settle(text), &mut draft)
+    let settled = clausify::settle(text);
+    match certify::length_told(settled.session) {
+        Length::Bytes(n) => n,
+        Length::Refused(_) => {
+            let mut draft = [0u8; text::DRAFT];
+            report::report(settled, &mut draft)
+        }
+    }
 }
 
 // Writes what the task gives at the start of the output, and returns its length; 0 where there is no room for it.
