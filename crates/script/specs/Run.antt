@@ -2,7 +2,7 @@
 use mathlib.Core.Bool.{true, false}
 use mathlib.Core.List.{List, [], _++_}
 use mathlib.Core.Path.{_≡_}
-use Prim.Native.Nat.{ℕ, _≤_}
+use Prim.Native.Nat.{ℕ, _≤_, _<_}
 use lib.ListN.{length, take, drop}
 use Rattle.prover.specs.Calls.{Opened}
 use Rattle.prover.specs.declared.Session.{Session}
@@ -45,11 +45,21 @@ abbrev pub TranscriptPrinted : Type 0
 TranscriptPrinted = (o : Changed) → Opened 1 o → (buffer : List ℕ) → length buffer ≡ lineRoom
     → (script printed : List ℕ) → Run (o .session) 1 buffer noLine script printed → printed ≡ transcript script
 
--- Every run from the later place on is the end of one from the earlier: the line's session, number, buffer and what is known of it, and the input to come.
-abbrev pub Leads : Session → ℕ → List ℕ → Pending → List ℕ → Session → ℕ → List ℕ → Pending → List ℕ → Type 0
-Leads s number buffer p input s2 number2 buffer2 p2 input2 =
-    (printed : List ℕ) → Run s2 number2 buffer2 p2 input2 printed → (first : List ℕ) × Run s number buffer p input (first ++ printed)
+-- From a place of a piece to another these bytes are printed, whatever input follows: every run from there on is the end of one that prints
+-- them first. Here and there: the place, the session, the line's number, its buffer and what is known of it.
+abbrev pub Prints : List ℕ → List ℕ → ℕ → Session → ℕ → List ℕ → Pending → ℕ → Session → ℕ → List ℕ → Pending → Type 0
+Prints first piece from s number buffer p at s2 number2 buffer2 p2 =
+    (rest printed : List ℕ) → Run s2 number2 buffer2 p2 (drop at piece ++ rest) printed → Run s number buffer p (drop from piece ++ rest) (first ++ printed)
 
--- The same through a whole piece, whatever input follows it.
+-- Lines of a piece are answered, up to a place that is further: what they print are the first n bytes of the output.
+pub record LinesAnswered (piece : List ℕ) (from : ℕ) (s : Session) (number : ℕ) (buffer : List ℕ) (p : Pending)
+    (at : ℕ) (s2 : Session) (number2 : ℕ) (buffer2 : List ℕ) (p2 : Pending) (output : List ℕ) (n : ℕ) : Type 0 where
+  pub inside : at ≤ length piece
+  pub further : from < length piece → from < at
+  pub fits : n ≤ length output
+  pub prints : Prints (take n output) piece from s number buffer p at s2 number2 buffer2 p2
+
+-- Some bytes are printed through a whole piece.
 abbrev pub Through : Session → ℕ → List ℕ → Pending → List ℕ → Session → ℕ → List ℕ → Pending → Type 0
-Through s number buffer p piece s2 number2 buffer2 p2 = (rest : List ℕ) → Leads s number buffer p (piece ++ rest) s2 number2 buffer2 p2 rest
+Through s number buffer p piece s2 number2 buffer2 p2 =
+    (first : List ℕ) × ((rest printed : List ℕ) → Run s2 number2 buffer2 p2 rest printed → Run s number buffer p (piece ++ rest) (first ++ printed))

@@ -1,13 +1,13 @@
-// Reads a script of calls from standard input and prints the answer to each as soon as its line is complete.
+// Reads a script of calls from standard input and prints the answer to each.
 use libc::STDERR_FILENO;
 use prover::Session;
 use script::Pending;
 use streams::Input;
-ghost use mathlib.Core.Bool.{true, false};
+ghost use mathlib.Core.Bool.{true};
 ghost use mathlib.Core.Path.{_≡_};
 ghost use Prim.Native.Nat.{_≤_};
 ghost use lib.ListN.{length};
-ghost use Rattle.script.specs.Run.{outputRoom, Through};
+ghost use Rattle.script.specs.Run.{outputRoom, LinesAnswered, Through};
 
 // A script is read in pieces of at most so many bytes.
 const PIECE: usize = 65536;
@@ -22,6 +22,13 @@ struct Script {
     number: u64,
 }
 
+// After lines of a piece: the place up to which it was read, and how many bytes of the output the answers are.
+struct Answers {
+    script: Script,
+    at: usize,
+    length: usize,
+}
+
 // After a piece, and whether there is more to do: no input or output failed, and the input has not ended.
 struct Reached {
     script: Script,
@@ -32,34 +39,40 @@ fn write(output: &[u8]) -> bool {
     output.len() == 0 || streams::write(output)
 }
 
-// Whether the answers held are written before the line that begins at a place of the piece: its own may need the room; or it may be
-// a question, which can take long. Who sends a full piece ahead does not wait for a single answer.
-fn are_due(piece: &[u8], at: usize, room: usize) -> bool
-    ensures { λ r. ⌜ (r ≡ false → outputRoom ≤ room) ⌝ }
+// Whether the answers can wait for that to the line which begins at a place of the piece: there is room for it, and it is no question,
+// which can take long. Who sends a full piece ahead does not wait for a single answer.
+fn can_wait(piece: &[u8], at: usize, room: usize) -> bool
+    ensures { λ r. ⌜ (r ≡ true → outputRoom ≤ room) ⌝ }
 {
     let n = piece.len();
     if room < script::OUTPUT {
-        return true;
-    }
-    if n <= at || n == PIECE {
         return false;
     }
-    piece[at] == b'a' || piece[at] == b' '
+    if n <= at || n == PIECE {
+        return true;
+    }
+    piece[at] != b'a' && piece[at] != b' '
 }
 
-// Answers the lines that end in a piece, and writes the answers, each as soon as it is due, and all of them in the end.
-fn answer(start: Script, piece: &[u8], line: &mut [u8], output: &mut [u8]) -> Reached
-    requires { ⌜ outputRoom ≤ length (now output) ⌝ }
-    ensures { λ r. ⌜ (r .more ≡ true → Through (start .session) (start .number) (now (line .entry)) (start .pending) (now (piece .entry))
-        (r .script .session) (r .script .number) (now (line .exit)) (r .script .pending)) ⌝ }
+// Answers lines of a piece, from a place on, one behind the other in the output, while the answers can wait.
+fn answer_lines(
+    start: Script,
+    piece: &[u8],
+    from: usize,
+    line: &mut [u8],
+    output: &mut [u8],
+) -> Answers
+    requires { ⌜ (from ≤ length (now piece)) × (outputRoom ≤ length (now output)) ⌝ }
+    ensures { λ r. ⌜ LinesAnswered (now (piece .entry)) from (start .session) (start .number) (now (line .entry)) (start .pending)
+        (r .at) (r .script .session) (r .script .number) (now (line .exit)) (r .script .pending) (now (output .exit)) (r .length) ⌝ }
 {
     let mut session = start.session;
     let mut pending = start.pending;
     let mut number = start.number;
     let mut held = 0;
-    let mut more = true;
-    let mut at = 0;
-    while more && at < piece.len() {
+    let mut at = from;
+    let mut waits = true;
+    while waits && at < piece.len() {
         let gathered = script::gather(piece, at, line, pending);
         at = gathered.at;
         pending = gathered.pending;
@@ -69,10 +82,7 @@ fn answer(start: Script, piece: &[u8], line: &mut [u8], output: &mut [u8]) -> Re
             number = script::number_after(number);
             pending = Pending::NONE;
             held += answer.length;
-            if are_due(piece, at, output.len() - held) {
-                more = write(&output[..held]);
-                held = 0;
-            }
+            waits = can_wait(piece, at, output.len() - held);
         }
     }
     let script = Script {
@@ -80,10 +90,30 @@ fn answer(start: Script, piece: &[u8], line: &mut [u8], output: &mut [u8]) -> Re
         pending,
         number,
     };
-    Reached {
+    Answers {
         script,
-        more: more && write(&output[..held]),
+        at,
+        length: held,
     }
+}
+
+// Answers the lines that end in a piece.
+fn answer(start: Script, piece: &[u8], line: &mut [u8], output: &mut [u8]) -> Reached
+    requires { ⌜ outputRoom ≤ length (now output) ⌝ }
+    ensures { λ r. ⌜ (r .more ≡ true → Through (start .session) (start .number) (now (line .entry)) (start .pending) (now (piece .entry))
+        (r .script .session) (r .script .number) (now (line .exit)) (r .script .pending)) ⌝ }
+{
+    let mut script = start;
+    let mut more = true;
+    let mut at = 0;
+    while more && at < piece.len() {
+        let answers = answer_lines(script, piece, at, line, output);
+        script = answers.script;
+        at = answers.at;
+        let n = answers.length;
+        more = write(&output[..n]);
+    }
+    Reached { script, more }
 }
 
 // Answers the last line.

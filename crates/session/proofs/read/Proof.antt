@@ -1,7 +1,6 @@
 -- What came is within the buffer.
 use Rattle.streams.proofs.Reading.{bytes-within}
 use borrow.Author.Needs.{needs}
-use native.Mathlib.Omega.{arith}
 use Rattle.session.proofs.read.Statement.{statement}
 use Rattle.session.proofs.read.Tie as tie
 
