@@ -44,11 +44,12 @@ pub struct Style {
 /// Text of a formula with so many connectives, as `~`, `&`, `|`, `>` or `=`.
 pub fn formula(random: &mut Random, style: &Style, connectives: usize) -> Vec<u8> {
     let mut text = Vec::new();
-    write(random, style, connectives, &mut text);
+    write(random, style, connectives, &mut false, &mut text);
     text
 }
 
-fn write(random: &mut Random, style: &Style, connectives: usize, text: &mut Vec<u8>) {
+/// An `=` stands at most once between the same parentheses: `equated` says whether it does.
+fn write(random: &mut Random, style: &Style, connectives: usize, equated: &mut bool, text: &mut Vec<u8>) {
     if style.spaces > 0 && random.one_in(style.spaces) {
         text.push(b' ');
     }
@@ -58,24 +59,28 @@ fn write(random: &mut Random, style: &Style, connectives: usize, text: &mut Vec<
         text.push(if is_false { b'0' } else { letter });
         return;
     }
-    let connective = *random.pick(style.connectives);
+    let mut connective = *random.pick(style.connectives);
     if connective == b'~' {
         text.push(b'~');
-        return inner(random, style, connectives - 1, text);
+        return inner(random, style, connectives - 1, equated, text);
     }
+    if connective == b'=' && *equated {
+        connective = b'>';
+    }
+    *equated |= connective == b'=';
     let left = random.below(connectives);
-    inner(random, style, left, text);
+    inner(random, style, left, equated, text);
     text.push(connective);
-    inner(random, style, connectives - 1 - left, text);
+    inner(random, style, connectives - 1 - left, equated, text);
 }
 
-fn inner(random: &mut Random, style: &Style, connectives: usize, text: &mut Vec<u8>) {
+fn inner(random: &mut Random, style: &Style, connectives: usize, equated: &mut bool, text: &mut Vec<u8>) {
     let bare = connectives == 0 || style.bare > 0 && random.one_in(style.bare);
     if bare {
-        return write(random, style, connectives, text);
+        return write(random, style, connectives, equated, text);
     }
     text.push(b'(');
-    write(random, style, connectives, text);
+    write(random, style, connectives, &mut false, text);
     text.push(b')');
 }
 

@@ -65,7 +65,7 @@ fn parse(text: &[u8]) -> Result<Formula, usize> {
             (b'&', false) => stacks.between(Connective::And),
             (b'|', false) => stacks.between(Connective::Or),
             (b'>', false) => stacks.between(Connective::Implies),
-            (b'=', false) => stacks.between(Connective::Equal),
+            (b'=', false) if stacks.equal() => {}
             _ => return Err(place),
         }
         operand_next = match byte {
@@ -82,9 +82,10 @@ fn parse(text: &[u8]) -> Result<Formula, usize> {
 
 fn tightness(connective: Connective) -> u8 {
     match connective {
-        Connective::And => 3,
-        Connective::Or => 2,
-        Connective::Implies | Connective::Equal => 1,
+        Connective::And => 4,
+        Connective::Or => 3,
+        Connective::Implies => 2,
+        Connective::Equal => 1,
     }
 }
 
@@ -118,7 +119,7 @@ impl Stacks {
                 Waiting::Parenthesis => false,
                 Waiting::Not => true,
                 Waiting::Between(earlier) => {
-                    let to_left = tightness(connective) > 1;
+                    let to_left = tightness(connective) > tightness(Connective::Implies);
                     tightness(earlier) > tightness(connective) || to_left && tightness(earlier) == tightness(connective)
                 }
             };
@@ -129,6 +130,13 @@ impl Stacks {
             self.apply(top);
         }
         self.waiting.push(Waiting::Between(connective));
+    }
+
+    /// An `=`, which binds all to its left to the last open parenthesis; says whether it is the first there.
+    fn equal(&mut self) -> bool {
+        self.between(Connective::Equal);
+        let before = self.waiting.len().checked_sub(2).map(|at| self.waiting[at]);
+        !matches!(before, Some(Waiting::Between(Connective::Equal)))
     }
 
     /// Applies all down to the last open parenthesis, and says whether there was one.
@@ -167,6 +175,12 @@ mod tests {
             ("P", 0),
             ("(p)(", 3),
             ("1", 0),
+            ("p=q=r", 3),
+            ("p=q>r=s", 5),
+            ("(p=q)=r=s", 7),
+            ("p=(q=r)=s", 7),
+            ("(p=q=r)", 4),
+            ("p=((q)=r)=s", 9),
         ];
         for (text, place) in cases {
             assert_eq!(refused(text), Refusal::at(3, place), "{text}");
@@ -204,7 +218,10 @@ mod tests {
         };
         same("~p&q|r>s", "(((~p)&q)|r)>s");
         same("p>q>r", "p>(q>r)");
-        same("p=q>r=s", "p=(q>(r=s))");
+        same("p>q=r", "(p>q)=r");
+        same("p=q>r>s", "p=(q>(r>s))");
+        same("p|q=~r&s", "(p|q)=((~r)&s)");
+        same("(p=q)=(r=s)", "((p=q))=(((r=s)))");
         same("p|q|r", "(p|q)|r");
         same("p&q&r", "(p&q)&r");
         same("p|q&r|s", "(p|(q&r))|s");

@@ -28,6 +28,28 @@ pub fn damaged(random: &mut Random) -> Vec<u8> {
     input
 }
 
+/// Parentheses within parentheses, where an `=` stands before, within or after some of them.
+pub fn nested(random: &mut Random) -> Vec<u8> {
+    let depth = random.below(70);
+    let often = 1 + random.below(40);
+    let operator = |random: &mut Random| if random.one_in(often) { b'=' } else { *random.pick(b"&|>") };
+    let mut input = Vec::new();
+    for _ in 0..depth {
+        if random.one_in(often) {
+            input.extend([b'p', operator(random)]);
+        }
+        input.push(b'(');
+    }
+    input.push(b'q');
+    for _ in 0..depth {
+        input.push(b')');
+        if random.one_in(often) {
+            input.extend([operator(random), b'r']);
+        }
+    }
+    input
+}
+
 /// A text that has every connective, parentheses within parentheses, and a space.
 pub fn with_every_connective() -> Vec<u8> {
     [&b"((a>~b)&(c|0) = ~~(d>(e&f)))>".repeat(4)[..], b"g"].concat()
@@ -44,6 +66,10 @@ pub fn limits() -> Vec<Vec<u8>> {
         all.push(b">p".repeat(length / 2));
         all.push([b"p".to_vec(), b">p".repeat(length / 2)].concat());
     }
+    for count in 0..68 {
+        all.push([&b"p=(".repeat(count)[..], b"p", &b")".repeat(count), b"=p"].concat());
+        all.push([&b"(".repeat(count)[..], b"p", &b")=p".repeat(count)].concat());
+    }
     for count in 60..68 {
         let (open, close) = (b"(".repeat(count), b")".repeat(count));
         all.push(open.clone());
@@ -57,7 +83,7 @@ pub fn limits() -> Vec<Vec<u8>> {
             all.push([&b"p&".repeat(count)[..], operand].concat());
             all.push([&b"p|".repeat(count)[..], operand].concat());
             all.push([&b"p>".repeat(count)[..], operand].concat());
-            all.push([&b"p=".repeat(count / 3)[..], operand].concat());
+            all.push([&b"(p=".repeat(count / 3)[..], operand, &b")".repeat(count / 3)].concat());
         }
     }
     all

@@ -2,7 +2,7 @@
 use mathlib.Core.Bool.{Bool, true, false, cond, _&&_}
 use mathlib.Core.List.{List, [], _∷_, _++_, map}
 use mathlib.Core.Logic.{_⊎_, inl, inr}
-use mathlib.Core.Path.{_≡_, refl, sym, _∙_, ap}
+use mathlib.Core.Path.{_≡_, refl, sym, _∙_, ap, subst}
 use Prim.Native.Nat.{ℕ, _+_, _-_, _≤_, _<_}
 use native.Mathlib.Numerals.{add-one}
 use native.Mathlib.Omega.{arith}
@@ -21,7 +21,7 @@ module _ (P : Class → Type 0) (n : ℕ) where
   number-or : (m : ℕ) (c d : Class) → (n ≡ m → P c) → ((n ≡ m → ⊥) → P d) → P (cond (eqb n m) c d)
   number-or m c d f g = by-cond P (eqb n m) c d (λ e. f (eqb-true n m e)) (λ e. g (eqb-false n m e))
 
-  by-byte :
+  pub by-byte :
       (n ≡ 126 → P tilde) → (n ≡ 38 → P ampersand) → (n ≡ 124 → P bar) → (n ≡ 62 → P greater) → (n ≡ 61 → P equals)
       → (n ≡ 48 → P nought) → (n ≡ 40 → P opening) → (n ≡ 41 → P closing) → (n ≡ 32 → P blank)
       → (97 ≤ n → n ≤ 122 → P (lowercase (n - 97))) → P foreign → P (classOf n)
@@ -58,15 +58,6 @@ code-small b =
     by-byte Small b
     (λ _. omega arith) (λ _. omega arith) (λ _. omega arith) (λ _. omega arith) (λ _. omega arith) (λ _. omega arith)
     (λ _. omega arith) (λ _. omega arith) (λ _. omega arith) (λ low high. omega arith) (omega arith)
-
--- Byte 32 alone is a space.
-pub blank-byte : (b : ℕ) → codeOf (classOf b) ≡ 6 → b ≡ 32
-unfolding codeOf
-blank-byte b =
-    by-byte (λ c. codeOf c ≡ 6 → b ≡ 32) b
-    (λ _ e. absurd (omega arith)) (λ _ e. absurd (omega arith)) (λ _ e. absurd (omega arith)) (λ _ e. absurd (omega arith))
-    (λ _ e. absurd (omega arith)) (λ _ e. absurd (omega arith)) (λ _ e. absurd (omega arith)) (λ _ e. absurd (omega arith))
-    (λ h e. h) (λ _ _ e. absurd (omega arith)) (λ e. absurd (omega arith))
 
 -- The tests by a class's number.
 module _ (n : ℕ) where
@@ -131,6 +122,33 @@ class-is c n e = sym (decode-code c) ∙ ap decode (sym e)
 
 pub letter-is : (c : Class) (n : ℕ) → n ≡ codeOf c → 10 ≤ n → c ≡ lowercase (n - 10)
 letter-is c n e h = class-is c n e ∙ decode-letter n h
+
+-- The byte of each class that is not foreign.
+abbrev byteOf : Class → ℕ
+byteOf foreign = 0
+byteOf closing = 41
+byteOf ampersand = 38
+byteOf bar = 124
+byteOf greater = 62
+byteOf equals = 61
+byteOf blank = 32
+byteOf tilde = 126
+byteOf opening = 40
+byteOf nought = 48
+byteOf (lowercase l) = 97 + l
+
+byte-is : (b n : ℕ) → codeOf (classOf b) ≡ n → 0 < n → b ≡ byteOf (decode n)
+unfolding codeOf
+byte-is b n e z =
+    subst (λ (c : Class). b ≡ byteOf c) (class-is (classOf b) n (sym e))
+    (by-byte (λ c. 0 < codeOf c → b ≡ byteOf c) b (λ h _. h) (λ h _. h) (λ h _. h) (λ h _. h) (λ h _. h) (λ h _. h) (λ h _. h) (λ h _. h) (λ h _. h)
+    (λ low high _. omega arith) (λ f. absurd (omega arith)) (omega arith))
+
+pub blank-byte : (b : ℕ) → codeOf (classOf b) ≡ 6 → b ≡ 32
+blank-byte b e = byte-is b 6 e (omega arith)
+
+pub opening-byte : (b : ℕ) → codeOf (classOf b) ≡ 8 → b ≡ 40
+opening-byte b e = byte-is b 8 e (omega arith)
 
 -- No token is a space.
 pub no-blank : (s : List ℕ) (c : Class) (l : List Class) → tokens s ≡ c ∷ l → c ≡ blank → ⊥

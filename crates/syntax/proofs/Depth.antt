@@ -11,13 +11,14 @@ use lib.ListN.{length, getD, take}
 use lib.Seq.{take-suc, take-all}
 use Rattle.atoms.proofs.Truth.{by-cond}
 use Rattle.syntax.specs.Refusal.{count, mostOpen, TooDeepAt, TooDeep}
+use Rattle.syntax.specs.Judge.{isByte}
 
-count-snoc : (x : ℕ) (u : List ℕ) (b : ℕ) → count x (u ++ (b ∷ [])) ≡ count x u + cond (eqb b x) 1 0
+count-snoc : (x : ℕ) (u : List ℕ) (b : ℕ) → count x (u ++ (b ∷ [])) ≡ count x u + isByte x b
 unfolding count
-count-snoc x [] b = by-cond (λ (n : ℕ). cond (eqb b x) 1 0 ≡ 0 + n) (eqb b x) 1 0 (λ e. rw e) (λ e. rw e)
+count-snoc x [] b = by-cond (λ (n : ℕ). isByte x b ≡ 0 + n) (eqb b x) 1 0 (λ e. rw e) (λ e. rw e)
 count-snoc x (a ∷ u) b =
     let ih = count-snoc x u b in
-    by-cond (λ (n : ℕ). cond (eqb a x) (suc (count x (u ++ (b ∷ [])))) (count x (u ++ (b ∷ []))) ≡ n + cond (eqb b x) 1 0) (eqb a x) (suc (count x u)) (count x u)
+    by-cond (λ (n : ℕ). cond (eqb a x) (suc (count x (u ++ (b ∷ [])))) (count x (u ++ (b ∷ []))) ≡ n + isByte x b) (eqb a x) (suc (count x u)) (count x u)
     (λ e. rw e (omega arith)) (λ e. rw e (omega arith))
 
 -- The counts of the first i bytes; none of those beginnings is too deep.
@@ -44,19 +45,19 @@ module _ (s : List ℕ) where
       shallow-none : TooDeepAt s 0 → ⊥
       shallow-none t = omega arith
 
-  module _ (opened closed i : ℕ) (h : Shallow s opened closed i) (w : i < length s) where
-    counts : (x : ℕ) → count x (take (i + 1) s) ≡ count x (take i s) + cond (eqb (getD s i 0) x) 1 0
-    counts x = rw (add-one, take-suc s i 0) (count-snoc x (take i s) (getD s i 0))
+  pub counts : (i : ℕ) → i < length s → (x : ℕ) → count x (take (i + 1) s) ≡ count x (take i s) + isByte x (getD s i 0)
+  counts i w x = rw (add-one, take-suc s i 0) (count-snoc x (take i s) (getD s i 0))
 
-    module _ (a b : ℕ) (ea : a ≡ cond (eqb (getD s i 0) 40) 1 0) (eb : b ≡ cond (eqb (getD s i 0) 41) 1 0) (ha : a ≤ 1) (hb : b ≤ 1) where
+  module _ (opened closed i : ℕ) (h : Shallow s opened closed i) (w : i < length s) where
+    module _ (a b : ℕ) (ea : a ≡ isByte 40 (getD s i 0)) (eb : b ≡ isByte 41 (getD s i 0)) (ha : a ≤ 1) (hb : b ≤ 1) where
       pub found-deep : mostOpen + (closed + b) < opened + a → TooDeep s
-      found-deep d = (i + 1, omega (arith, counts 40, counts 41, h .opened-is, h .closed-is, ea, eb))
+      found-deep d = (i + 1, omega (arith, counts i w 40, counts i w 41, h .opened-is, h .closed-is, ea, eb))
 
       pub shallow-next : (mostOpen + (closed + b) < opened + a → ⊥) → Shallow s (opened + a) (closed + b) (i + 1)
       shallow-next n = record {
         inside = omega arith;
-        opened-is = omega (arith, counts 40, h .opened-is, ea);
-        closed-is = omega (arith, counts 41, h .closed-is, eb);
+        opened-is = omega (arith, counts i w 40, h .opened-is, ea);
+        closed-is = omega (arith, counts i w 41, h .closed-is, eb);
         opened-small = omega (arith, h .opened-small);
         closed-small = omega (arith, h .closed-small);
         none = λ k l t. elim (decLt k (i + 1)) [
@@ -66,7 +67,7 @@ module _ (s : List ℕ) where
       }
         where
           last : TooDeepAt s (i + 1) → mostOpen + (closed + b) < opened + a
-          last t = omega (arith, counts 40, counts 41, h .opened-is, h .closed-is, ea, eb)
+          last t = omega (arith, counts i w 40, counts i w 41, h .opened-is, h .closed-is, ea, eb)
 
   pub shallow-all : (opened closed i : ℕ) → Shallow s opened closed i → length s ≤ i → TooDeep s → ⊥
   shallow-all opened closed i h l (k, t) = elim (decLt k i) [

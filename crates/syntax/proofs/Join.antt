@@ -1,8 +1,10 @@
 -- Formulas joined without parentheses are formulas, at whatever levels they stand.
+use mathlib.Core.Bool.{Bool, true, false}
 use mathlib.Core.List.{List, _∷_, _++_, append-assoc}
 use mathlib.Core.Path.{sym, subst}
 use Rattle.syntax.specs.Class.{Class, ampersand, bar, greater, equals, tilde}
-use Rattle.syntax.specs.Grammar.{Tree, Level, conjunction, disjunction, implication, Parses, a-letter, a-falsum, by-not, inside, no-and, by-and, no-or, by-or, no-implies, by-implies, by-equal}
+use Rattle.syntax.specs.Grammar.{Tree, Level, conjunction, disjunction, implication, equivalence, Parses, a-letter, a-falsum}
+use Rattle.syntax.specs.Grammar.{by-not, inside, no-and, by-and, no-or, by-or, no-implies, by-implies, no-equal, by-equal}
 
 -- The tokens are a formula of the level.
 abbrev pub Some : Level → List Class → Type 0
@@ -19,6 +21,7 @@ not-some (no-or r) = let x = not-some r in (_, no-or (x .1))
 not-some (by-or r q) = let x = not-some r in (_, by-or (x .1) q)
 not-some (no-implies r) = let x = not-some r in (_, no-implies (x .1))
 not-some (by-implies r q) = let x = not-some r in (_, by-implies (x .1) q)
+not-some (no-equal r) = let x = not-some r in (_, no-equal (x .1))
 not-some (by-equal r q) = let x = not-some r in (_, by-equal (x .1) q)
 
 -- The same tokens, grouped to the left or to the right.
@@ -44,29 +47,42 @@ or-or : {u v : List Class} {p q : Tree} → Parses disjunction u p → Parses di
 or-or r (no-or q) = (_, by-or r q)
 or-or {u} r (by-or {u = a} {v = b} q s) = let x = or-or r q in to-left u a b bar bar (_, by-or (x .1) s)
 
--- What joins below the weakest level joins at it: first with a left part below it, then with any.
+-- What joins disjunctions joins implications: first with a disjunction to the left, then with any.
 module _ (c : Class) (J : (u v : List Class) (p q : Tree) → Parses disjunction u p → Parses disjunction v q → Some disjunction (u ++ (c ∷ v))) where
   below-left : {u v : List Class} {p q : Tree} → Parses disjunction u p → Parses implication v q → Some implication (u ++ (c ∷ v))
   below-left {u} {v} {p} {q} r (no-implies s) = let x = J u v p q r s in (_, no-implies (x .1))
   below-left {u} {p = p} r (by-implies {u = a} {v = b} {p = y} s z) = let x = J u a p y r s in to-left u a b c greater (_, by-implies (x .1) z)
-  below-left {u} {p = p} r (by-equal {u = a} {v = b} {p = y} s z) = let x = J u a p y r s in to-left u a b c equals (_, by-equal (x .1) z)
 
 -- The right part of an implication takes what follows.
 module _ (c : Class) (L : (u v : List Class) (p q : Tree) → Parses disjunction u p → Parses implication v q → Some implication (u ++ (c ∷ v))) where
   weakest : {u v : List Class} {p q : Tree} → Parses implication u p → Parses implication v q → Some implication (u ++ (c ∷ v))
   weakest {u} {v} {p} {q} (no-implies r) s = L u v p q r s
   weakest {v = v} (by-implies {u = a} {v = b} r z) s = let x = weakest z s in to-right a b v greater c (_, by-implies r (x .1))
-  weakest {v = v} (by-equal {u = a} {v = b} r z) s = let x = weakest z s in to-right a b v equals c (_, by-equal r (x .1))
 
--- The binary operators.
+-- The operators that may stand again and again at one level.
 pub data Operator : Class → Type 0 where
   is-and : Operator ampersand
   is-or : Operator bar
   is-implies : Operator greater
-  is-equal : Operator equals
 
-pub join-some : {u v : List Class} {c : Class} → Operator c → Some implication u → Some implication v → Some implication (u ++ (c ∷ v))
-join-some is-and x y = weakest ampersand (λ u v p q. below-left ampersand (λ u v p q. and-or)) (x .1) (y .1)
-join-some is-or x y = weakest bar (λ u v p q. below-left bar (λ u v p q. or-or)) (x .1) (y .1)
-join-some is-implies x y = weakest greater (λ u v p q r s. (_, by-implies r s)) (x .1) (y .1)
-join-some is-equal x y = weakest equals (λ u v p q r s. (_, by-equal r s)) (x .1) (y .1)
+join-implications : {u v : List Class} {c : Class} → Operator c → Some implication u → Some implication v → Some implication (u ++ (c ∷ v))
+join-implications is-and x y = weakest ampersand (λ u v p q. below-left ampersand (λ u v p q. and-or)) (x .1) (y .1)
+join-implications is-or x y = weakest bar (λ u v p q. below-left bar (λ u v p q. or-or)) (x .1) (y .1)
+join-implications is-implies x y = weakest greater (λ u v p q r s. (_, by-implies r s)) (x .1) (y .1)
+
+-- What may still be read at a level: after an `=` no other.
+abbrev pub levelOf : Bool → Level
+levelOf false = equivalence
+levelOf true = implication
+
+pub raised : (e : Bool) {u : List Class} → Some implication u → Some (levelOf e) u
+raised false x = (_, no-equal (x .1))
+raised true x = x
+
+pub join-some : (e : Bool) {u v : List Class} {c : Class} → Operator c → Some implication u → Some (levelOf e) v → Some (levelOf e) (u ++ (c ∷ v))
+join-some true o x y = join-implications o x y
+join-some false {u} {v} {c} o x (t, r) = go r
+  where
+    go : {w : List Class} {z : Tree} → Parses equivalence w z → Some equivalence (u ++ (c ∷ w))
+    go (no-equal q) = raised false (join-implications o x (_, q))
+    go (by-equal {u = a} {v = b} q s) = let y = join-implications o x (_, q) in to-left u a b c equals (_, by-equal (y .1) s)

@@ -15,7 +15,7 @@ use Rattle.syntax.specs.Grammar.{Tree}
 use Rattle.syntax.specs.Reading.{reading}
 use Rattle.syntax.specs.Nodes.{nodes, named}
 use Rattle.syntax.specs.Refusal.{mostBytes, BadLength, count, mostOpen, mostNames, TooDeep, Longest, line-1, line-2, line-3, line-4}
-use Rattle.syntax.specs.Scan.{wanted, fitting}
+use Rattle.syntax.specs.Scan.{start, fitting}
 use Rattle.syntax.specs.Judge.{Judgement, refused, accepted, isByte, deepAfter, judgeTree, judge, Right}
 use Rattle.syntax.proofs.Unique.{reading-of, reading-reads}
 use Rattle.syntax.proofs.Beginning.{longest}
@@ -69,7 +69,7 @@ module _ (s : List ℕ) where
       go (x, y) (inr h) = omega (arith, ltb-false mostBytes (length s) y)
 
   module _ (l : BadLength s → ⊥) (d : TooDeep s → ⊥) where
-    tree-right : (o : Option Tree) → reading s ≡ o → Right s (judgeTree (fitting (wanted 0) (map classOf s)) o)
+    tree-right : (o : Option Tree) → reading s ≡ o → Right s (judgeTree (fitting start (map classOf s)) o)
     tree-right none e = line-3 l d (λ f. no-reading (sym e ∙ reading-of s (f .0) (f .1))) (longest s)
       where
         no-reading : {t : Tree} → none ≡ some t → ⊥
@@ -90,11 +90,11 @@ module _ (s : List ℕ) where
   longest-one : (a b : ℕ) → Longest s a → Longest s b → a ≡ b
   longest-one a b x y = omega (arith, x .last b (y .within) (y .begins), y .last a (x .within) (x .begins))
 
-  judge-reading : (BadLength s → ⊥) → (TooDeep s → ⊥) → (o : Option Tree) → reading s ≡ o → judge s ≡ judgeTree (fitting (wanted 0) (map classOf s)) o
+  judge-reading : (BadLength s → ⊥) → (TooDeep s → ⊥) → (o : Option Tree) → reading s ≡ o → judge s ≡ judgeTree (fitting start (map classOf s)) o
   unfolding judge
   judge-reading l d o e =
-      by-cond (λ (j : Judgement). j ≡ judgeTree (fitting (wanted 0) (map classOf s)) o) (eqb (length s) 0 || ltb mostBytes (length s)) _ _ (λ t. absurd (l (bad-length t)))
-      (λ t. by-cond (λ (j : Judgement). j ≡ judgeTree (fitting (wanted 0) (map classOf s)) o) (deepAfter 0 0 s) _ _ (λ f. absurd (d (deep f))) (λ f. rw e))
+      by-cond (λ (j : Judgement). j ≡ judgeTree (fitting start (map classOf s)) o) (eqb (length s) 0 || ltb mostBytes (length s)) _ _ (λ t. absurd (l (bad-length t)))
+      (λ t. by-cond (λ (j : Judgement). j ≡ judgeTree (fitting start (map classOf s)) o) (deepAfter 0 0 s) _ _ (λ f. absurd (d (deep f))) (λ f. rw e))
 
   not-read : ((t : Tree) → reading s ≡ some t → ⊥) → reading s ≡ none
   not-read n = go (reading s) refl

@@ -9,7 +9,6 @@ use lib.ListN.{length, getD, length-append, List·getD-append}
 use lib.Seq.{getD-append-seam}
 use borrow.Author.Tests.{eq-eqb}
 use Rattle.atoms.proofs.Truth.{by-cond}
-use Rattle.syntax.specs.Grammar as grammar
 use Rattle.syntax.specs.Grammar.{Tree}
 use Rattle.syntax.specs.Nodes.{Entry, letter, falsum, sameLeaf, leafAt, nodes}
 use Rattle.syntax.proofs.Growth.{tree-keeps}

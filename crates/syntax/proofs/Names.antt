@@ -11,8 +11,7 @@ use borrow.Author.Tests.{ltb-false, ltb-true}
 use Rattle.atoms.proofs.Truth.{by-cond}
 use Rattle.ipl.specs.Lists.{any}
 use Rattle.syntax.specs.Class.{Class, foreign, closing, ampersand, bar, greater, equals, blank, tilde, opening, nought, lowercase, after}
-use Rattle.syntax.specs.Grammar as grammar
-use Rattle.syntax.specs.Grammar.{Tree, Level, Parses, a-letter, a-falsum, by-not, inside, no-and, by-and, no-or, by-or, no-implies, by-implies, by-equal, Reads}
+use Rattle.syntax.specs.Grammar.{Tree, Level, Parses, a-letter, a-falsum, by-not, inside, no-and, by-and, no-or, by-or, no-implies, by-implies, no-equal, by-equal, Reads}
 use Rattle.syntax.specs.Nodes.{Connective, And, Or, Implies, Entry, letter, falsum, compound, sameLeaf, leafAt, withLeaf, withCompound, withEquivalence, withTree, nodes, named}
 use Rattle.syntax.specs.Refusal.{mostNames}
 use Rattle.syntax.specs.Parts.{room}
@@ -162,6 +161,7 @@ size-tree (by-implies {u} {v} {p} {q} r s) T =
     compound-row (b .table) Implies (a .root) (b .root)
     ∙ ap (withNames 1) (size-tree s (a .table) ∙ ap (λ (y : Size). after counted y v) (size-tree r T))
     ∙ sym (binary-counted (sizeIn T) u v greater 1 (λ y. refl))
+size-tree (no-equal r) T = size-tree r T
 size-tree (by-equal {u} {v} {p} {q} r s) T =
     let a = withTree T p in let b = withTree (a .table) q in
     equivalence-row (b .table) (a .root) (b .root)

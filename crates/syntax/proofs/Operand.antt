@@ -1,28 +1,28 @@
 -- One law for each way in which a reader function reads an operand.
+use mathlib.Core.Bool.{Bool, true, false}
 use mathlib.Core.List.{List, [], _∷_, _++_, append-assoc}
-use mathlib.Core.Logic.{_⊎_, inl, inr}
 use mathlib.Core.Path.{_≡_, refl, sym, _∙_, ap, subst}
-use Prim.Native.Nat.{ℕ, suc, _-_, _≤_, _<_}
+use Prim.Native.Nat.{ℕ, _-_, _≤_, _<_}
 use native.Mathlib.Decide.{decLe}
 use native.Mathlib.Omega.{arith}
 use borrow.Author.Tests.{eq-eqb, ne-eqb}
 use lib.ListN.{length, drop}
-use Rattle.syntax.specs.Class.{Class, closing, blank, tilde, opening, nought, lowercase, after}
-use Rattle.syntax.specs.Code.{codeOf, decode}
+use Rattle.syntax.specs.Class.{Class, closing, equals, blank, tilde, opening, nought, lowercase, after}
+use Rattle.syntax.specs.Code.{decode}
 use Rattle.syntax.specs.Grammar as grammar
-use Rattle.syntax.specs.Grammar.{Tree, Level, negation, conjunction, disjunction, implication, Parses, a-letter, a-falsum}
-use Rattle.syntax.specs.Grammar.{by-not, inside, no-and, by-and, no-or, by-or, no-implies, by-implies, by-equal}
+use Rattle.syntax.specs.Grammar.{Tree, Level, negation, conjunction, disjunction, implication, equivalence, Parses, a-letter, a-falsum}
+use Rattle.syntax.specs.Grammar.{by-not, inside, no-and, by-and, no-or, by-or, no-implies, by-implies, no-equal, by-equal}
 use Rattle.syntax.specs.Nodes.{Connective, And, Or, Implies, Entry, falsum, Named, withLeaf, withCompound, withEquivalence, withTree}
-use Rattle.syntax.specs.Scan.{State, wanted, had, move}
+use Rattle.syntax.specs.Scan.{State, wanted, had, move, ends}
 use Rattle.syntax.specs.Parts.{held, Holds, withNegation}
-use Rattle.syntax.specs.Descent.{rest, headCode, leafOf, withJoined, NextToken, Wanted, Operand, Stops, Gives}
+use Rattle.syntax.specs.Descent.{rest, leafOf, NextToken, Wanted, Operand, NotNext, Stops}
 use Rattle.syntax.specs.declared.Parts.{Parts}
 use Rattle.syntax.specs.declared.bytes.Token.{Token}
 use Rattle.syntax.specs.declared.table.Parsed.{Parsed}
 use Rattle.syntax.proofs.Class.{no-blank, after-append}
 use Rattle.syntax.proofs.Position.{head-is, head-letter}
 use Rattle.syntax.proofs.Held.{Fits, held-as, grows, compound-grows, leaf-grows, equivalence-grows}
-use Rattle.syntax.proofs.Run.{parse-runs, begins-operand, ends-or-closes}
+use Rattle.syntax.proofs.Run.{parse-runs, misfit-run, begins-operand, ends-or-closes, equated-once}
 
 -- ---- what is held
 
@@ -60,42 +60,66 @@ module _ (s : List ℕ) (at : ℕ) where
   blank-free c l = no-blank (drop at s) c l
 
   -- Past an operand the text still fits.
-  pub past : {k : Level} {p : Parts} {r : Parsed} → (w : Wanted s at) → Operand k s at p r → after move (had (w .depth)) (rest s (r .next)) ≡ had 0
-  past {r = r} w o =
-      ap (λ (x : State). after move x (rest s (r .next))) (sym (parse-runs (w .depth) (o .parsed)))
-      ∙ sym (after-append move (wanted (w .depth)) (o .text) (rest s (r .next)))
-      ∙ sym (ap (after move (wanted (w .depth))) (o .split))
+  pub past : {k : Level} {p : Parts} {r : Parsed} → (w : Wanted s at) → (o : Operand k s at p r) → (x : State) → after move (wanted (w .equated) (w .outer)) (o .text) ≡ x
+      → ends (after move x (rest s (r .next))) ≡ true
+  past {r = r} w o x e =
+      ap ends (
+      ap (λ (y : State). after move y (rest s (r .next))) (sym e)
+      ∙ sym (after-append move (wanted (w .equated) (w .outer)) (o .text) (rest s (r .next)))
+      ∙ sym (ap (after move (wanted (w .equated) (w .outer))) (o .split))
+      )
       ∙ w .fits
 
-  -- An operator wants another.
-  pub wanted-after : {k : Level} {p : Parts} {r : Parsed} → Wanted s at → Operand k s at p r → (t : Token) → NextToken s (r .next) t → (n : ℕ)
-      → ((d : ℕ) → move (had d) (decode n) ≡ wanted d) → 0 < n → t .class ≡ n → Wanted s (t .next)
-  unfolding after
-  wanted-after {r = r} w o t k n op z e = record {
-    depth = w .depth;
-    fits = ap (λ (x : State). after move x (rest s (t .next))) (sym (op (w .depth))) ∙ sym (ap (after move (had (w .depth))) (head-is s (r .next) t k n e z)) ∙ past w o;
-    inside = k .inside;
-  }
+  -- A token after it.
+  module _ {k : Level} {p : Parts} {r : Parsed} (w : Wanted s at) (o : Operand k s at p r) (run : after move (wanted (w .equated) (w .outer)) (o .text) ≡ had (w .equated) (w .outer))
+      (t : Token) (next : NextToken s (r .next) t) (n : ℕ) (z : 0 < n) (e : t .class ≡ n) where
+    past-token : ends (after move (move (had (w .equated) (w .outer)) (decode n)) (rest s (t .next))) ≡ true
+    unfolding after
+    past-token = ap (λ (l : List Class). ends (after move (had (w .equated) (w .outer)) l)) (sym (head-is s (r .next) t next n e z)) ∙ past w o _ run
 
-  pub wanted-side : {k : Level} {p : Parts} {r : Parsed} → Wanted s at → Operand k s at p r → (t : Token) → NextToken s (r .next) t → 4 ≤ t .class → t .class < 6
-      → Wanted s (t .next)
+    -- An operator wants another operand.
+    pub wanted-after : move (had (w .equated) (w .outer)) (decode n) ≡ wanted (w .equated) (w .outer) → Wanted s (t .next)
+    wanted-after op = record { equated = w .equated; outer = w .outer; fits = ap (λ (x : State). ends (after move x (rest s (t .next)))) (sym op) ∙ past-token; inside = next .inside }
+
+  -- An `=` wants one, and no other has stood.
+  pub wanted-equal : {p : Parts} {r : Parsed} (w : Wanted s at) (o : Operand implication s at p r) (t : Token) → NextToken s (r .next) t → t .class ≡ 5
+      → (v : Wanted s (t .next)) × (v .equated ≡ true)
   unfolding move
-  wanted-side w o t k least most = elim (decLe (t .class) 4) [
-    | yes few ↦ wanted-after w o t k 4 (λ d. refl) (omega arith) (omega arith)
-    | no many ↦ wanted-after w o t k 5 (λ d. refl) (omega arith) (omega arith)
-  ]
+  wanted-equal w o t k e = go (w .equated) refl
+    where
+      go : (b : Bool) → w .equated ≡ b → (v : Wanted s (t .next)) × (v .equated ≡ true)
+      go true q = absurd (misfit-run (rest s (t .next)) (rw q at (past-token w o (parse-runs (o .parsed) (w .equated) (w .outer)) t k 5 (omega arith) e)))
+      go false q = (record { equated = true; outer = w .outer; fits = rw q at (past-token w o (parse-runs (o .parsed) (w .equated) (w .outer)) t k 5 (omega arith) e); inside = k .inside }, refl)
 
   module _ (t : Token) (k : NextToken s at t) where
     pub wanted-not : Wanted s at → t .class ≡ 7 → Wanted s (t .next)
     unfolding after move
-    wanted-not w e = record { depth = w .depth; fits = sym (ap (after move (wanted (w .depth))) (head-is s at t k 7 e (omega arith))) ∙ w .fits; inside = k .inside }
+    wanted-not w e = record {
+      equated = w .equated;
+      outer = w .outer;
+      fits = ap (λ (l : List Class). ends (after move (wanted (w .equated) (w .outer)) l)) (sym (head-is s at t k 7 e (omega arith))) ∙ w .fits;
+      inside = k .inside;
+    }
 
     pub wanted-inside : Wanted s at → t .class ≡ 8 → Wanted s (t .next)
     unfolding after move
-    wanted-inside w e = record { depth = suc (w .depth); fits = sym (ap (after move (wanted (w .depth))) (head-is s at t k 8 e (omega arith))) ∙ w .fits; inside = k .inside }
+    wanted-inside w e = record {
+      equated = false;
+      outer = w .equated ∷ w .outer;
+      fits = ap (λ (l : List Class). ends (after move (wanted (w .equated) (w .outer)) l)) (sym (head-is s at t k 8 e (omega arith))) ∙ w .fits;
+      inside = k .inside;
+    }
 
     pub operand-class : Wanted s at → 7 ≤ t .class
-    operand-class w = rw (k .class-is) (begins-operand (rest s at) (w .depth) (w .fits) blank-free)
+    operand-class w = rw (k .class-is) (begins-operand (rest s at) (w .equated) (w .outer) (w .fits) blank-free)
+
+-- After both sides of an `=` no other comes.
+pub equal-last : (s : List ℕ) (at : ℕ) {p q : Parts} {l r : Parsed} (w : Wanted s at) (x : Operand implication s at p l) (t : Token) → NextToken s (l .next) t → t .class ≡ 5
+    → Operand implication s (t .next) q r → NotNext equals (rest s (r .next))
+equal-last s at {r = r} w x t k e y =
+    let v = wanted-equal s at w x t k e in
+    let run = parse-runs (y .parsed) (v .0 .equated) (v .0 .outer) ∙ ap (λ (b : Bool). had b (v .0 .outer)) (v .1) in
+    equated-once (rest s (r .next)) (v .0 .outer) (past s (t .next) (v .0) y _ run)
 
 -- ---- operands
 
@@ -134,25 +158,17 @@ module _ (s : List ℕ) (at : ℕ) (p : Parts) where
     unfolding withTree
     joined-or = joined disjunction conjunction disjunction 3 grammar.or (λ T i j. withCompound T Or i j) (λ u v x y. by-or) (λ T x y. refl) (compound-more Or) (omega arith) l t r o
 
-    joined-implies : Operand disjunction s at p l → NextToken s (l .next) t → t .class ≡ 4 → Operand implication s (t .next) (l .parts) r → o .next ≡ r .next
+    pub joined-implies : Operand disjunction s at p l → NextToken s (l .next) t → t .class ≡ 4 → Operand implication s (t .next) (l .parts) r → o .next ≡ r .next
         → Holds (withCompound (held (r .parts)) Implies (l .root) (r .root)) o → Operand implication s at p o
     unfolding withTree
     joined-implies =
         joined disjunction implication implication 4 grammar.implies (λ T i j. withCompound T Implies i j) (λ u v x y. by-implies) (λ T x y. refl) (compound-more Implies)
         (omega arith) l t r o
 
-    joined-equal : Operand disjunction s at p l → NextToken s (l .next) t → t .class ≡ 5 → Operand implication s (t .next) (l .parts) r → o .next ≡ r .next
-        → Holds (withEquivalence (held (r .parts)) (l .root) (r .root)) o → Operand implication s at p o
+    pub joined-equal : Operand implication s at p l → NextToken s (l .next) t → t .class ≡ 5 → Operand implication s (t .next) (l .parts) r → o .next ≡ r .next
+        → Holds (withEquivalence (held (r .parts)) (l .root) (r .root)) o → Operand equivalence s at p o
     unfolding withTree
-    joined-equal = joined disjunction implication implication 5 grammar.equal withEquivalence (λ u v x y. by-equal) (λ T x y. refl) equivalence-grows (omega arith) l t r o
-
-    -- `>` or `=`.
-    pub joined-sides : Operand disjunction s at p l → NextToken s (l .next) t → 4 ≤ t .class → t .class < 6 → Operand implication s (t .next) (l .parts) r → o .next ≡ r .next
-        → Holds (withJoined (t .class) (held (r .parts)) (l .root) (r .root)) o → Operand implication s at p o
-    joined-sides x k least most y m h = elim (decLe (t .class) 4) [
-      | yes few ↦ joined-implies x k (omega arith) y m (subst (λ (n : Named). Holds n o) (rw (ne-eqb (t .class) 5 (λ i. omega arith))) h)
-      | no many ↦ joined-equal x k (omega arith) y m (subst (λ (n : Named). Holds n o) (rw (eq-eqb (t .class) 5 (omega arith))) h)
-    ]
+    joined-equal = joined implication implication equivalence 5 grammar.equal withEquivalence (λ u v x y. by-equal) (λ T x y. refl) equivalence-grows (omega arith) l t r o
 
   -- An operand of one level is one of the next.
   raised : (a k : Level) → ((u : List Class) (x : Tree) → Parses a u x → Parses k u x) → (r : Parsed) → Operand a s at p r → Operand k s at p r
@@ -164,13 +180,11 @@ module _ (s : List ℕ) (at : ℕ) (p : Parts) where
   pub single-or : (r : Parsed) → Operand conjunction s at p r → Operand disjunction s at p r
   single-or = raised conjunction disjunction (λ u x. no-or)
 
-  -- Neither `>` nor `=`.
-  pub single-implies : (r : Parsed) (t : Token) → Gives disjunction s at p r → NextToken s (r .next) t → (t .class ≡ 4 → ⊥) → (t .class ≡ 5 → ⊥) → Gives implication s at p r
-  unfolding codeOf
-  single-implies r t g k i e = record {
-    operand = raised disjunction implication (λ u x. no-implies) r (g .operand);
-    stops = (g .stops .0, g .stops .1, λ c. i (k .class-is ∙ c), λ c. e (k .class-is ∙ c));
-  }
+  pub single-implies : (r : Parsed) → Operand disjunction s at p r → Operand implication s at p r
+  single-implies = raised disjunction implication (λ u x. no-implies)
+
+  pub single-equal : (r : Parsed) → Operand implication s at p r → Operand equivalence s at p r
+  single-equal = raised implication equivalence (λ u x. no-equal)
 
   module _ (t : Token) (k : NextToken s at t) where
     pub negated : (r o : Parsed) → t .class ≡ 7 → Operand negation s (t .next) p r → o .next ≡ r .next → Holds (withNegation (held (r .parts)) (r .root)) o → Operand negation s at p o
@@ -188,13 +202,14 @@ module _ (s : List ℕ) (at : ℕ) (p : Parts) where
         negation-more : (T : List Entry) (a : ℕ) → length T ≤ length (withNegation T a .table)
         negation-more T a = let n = withLeaf T falsum in omega (arith, leaf-grows T falsum, compound-grows (n .table) Implies a (n .root))
 
-    pub parenthesized : (r : Parsed) (c : Token) → Wanted s at → t .class ≡ 8 → Operand implication s (t .next) p r
-        → Stops implication (rest s (r .next)) → NextToken s (r .next) c
+    pub parenthesized : (r : Parsed) (c : Token) → Wanted s at → t .class ≡ 8 → Operand equivalence s (t .next) p r
+        → Stops equivalence (rest s (r .next)) → NextToken s (r .next) c
         → Operand negation s at p (record { next = c .next; root = r .root; parts = r .parts })
     unfolding wanted-inside
     parenthesized r c w e x st q =
-        let fits = past s (t .next) (wanted-inside s at t k w e) x in
-        let closes = closes-here (ends-or-closes (rest s (r .next)) (suc (w .depth)) fits (blank-free s (r .next)) st) in
+        let run = parse-runs (x .parsed) (w .equated ∷ w .outer) in
+        let fits = past s (t .next) (wanted-inside s at t k w e) x (had (run .0) (w .equated ∷ w .outer)) (run .1) in
+        let closes = ends-or-closes (rest s (r .next)) (run .0) (w .equated ∷ w .outer) fits (blank-free s (r .next)) st in
         let ec : c .class ≡ 1 = q .class-is ∙ sym closes in
         record {
           text = opening ∷ (x .text ++ (closing ∷ []));
@@ -211,10 +226,6 @@ module _ (s : List ℕ) (at : ℕ) (p : Parts) where
           inside = q .inside;
           holds = record { sound = x .holds .sound; table = x .holds .table; root = x .holds .root };
         }
-      where
-        closes-here : ((rest s (r .next) ≡ []) × (suc (w .depth) ≡ 0)) ⊎ ((1 ≡ headCode (rest s (r .next))) × (0 < suc (w .depth))) → 1 ≡ headCode (rest s (r .next))
-        closes-here (inl y) = absurd (omega (arith, y .1))
-        closes-here (inr y) = y .0
 
     leaf-operand : (c : Class) (x : Tree) → Parses negation (c ∷ []) x → rest s at ≡ c ∷ rest s (t .next) → 0 < t .class → (o : Parsed) → o .next ≡ t .next
         → Holds (withTree (held p) x) o → Operand negation s at p o

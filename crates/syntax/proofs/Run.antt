@@ -1,68 +1,106 @@
 -- The scan over tokens: what a formula does to it, and which token can come next where the text fits to its end.
-use mathlib.Core.List.{List, [], _∷_}
-use mathlib.Core.Logic.{_⊎_, inl, inr}
+use mathlib.Core.Bool.{Bool, true, false, false≢true}
+use mathlib.Core.List.{List, [], _∷_, _++_}
 use mathlib.Core.Path.{_≡_, refl, sym, _∙_, ap}
-use Prim.Native.Nat.{ℕ, zero, suc, _≤_, _<_}
+use Prim.Native.Nat.{_≤_}
 use native.Mathlib.Omega.{arith}
 use Rattle.syntax.specs.Class.{Class, foreign, closing, ampersand, bar, greater, equals, blank, tilde, opening, nought, lowercase, after}
 use Rattle.syntax.specs.Code.{codeOf}
-use Rattle.syntax.specs.Grammar.{Tree, Level, implication, Parses, a-letter, a-falsum, by-not, inside, no-and, by-and, no-or, by-or, no-implies, by-implies, by-equal}
-use Rattle.syntax.specs.Scan.{State, misfit, wanted, had, move}
-use Rattle.syntax.specs.Descent.{headCode, Stops}
+use Rattle.syntax.specs.Grammar.{Tree, Level, negation, conjunction, disjunction, implication, equivalence, Parses, a-letter, a-falsum}
+use Rattle.syntax.specs.Grammar.{by-not, inside, no-and, by-and, no-or, by-or, no-implies, by-implies, no-equal, by-equal}
+use Rattle.syntax.specs.Scan.{State, misfit, wanted, had, move, ends}
+use Rattle.syntax.specs.Descent.{headCode, NotNext, Stops}
 use Rattle.syntax.proofs.Class.{after-append}
-use Rattle.syntax.proofs.Fault.{misfit-stays, misfit-had, wanted-had}
+use Rattle.syntax.proofs.Fault.{misfit-stays}
 
--- After a formula no operand is wanted, at the same depth.
-pub parse-runs : {k : Level} {u : List Class} {t : Tree} (d : ℕ) → Parses k u t → after move (wanted d) u ≡ had d
+-- After a formula no operand is wanted, with the same parentheses open; one without an `=` at its own level leaves that as it was.
+abbrev Keeps : List Class → Type 0
+Keeps u = (e : Bool) (E : List Bool) → after move (wanted e E) u ≡ had e E
+
+abbrev pub Runs : Level → List Class → Type 0
+Runs negation u = Keeps u
+Runs conjunction u = Keeps u
+Runs disjunction u = Keeps u
+Runs implication u = Keeps u
+Runs equivalence u = (E : List Bool) → (e : Bool) × (after move (wanted false E) u ≡ had e E)
+
+-- An operand, a token after which another is wanted, and that one.
+joined-runs : (u v : List Class) (c : Class) (e f : Bool) (E : List Bool) → after move (wanted e E) u ≡ had e E → move (had e E) c ≡ wanted f E
+    → after move (wanted f E) v ≡ had f E → after move (wanted e E) (u ++ (c ∷ v)) ≡ had f E
+unfolding after
+joined-runs u v c e f E r m q =
+    after-append move (wanted e E) u (c ∷ v) ∙ ap (λ (x : State). after move (move x c) v) r ∙ ap (λ (x : State). after move x v) m ∙ q
+
+pub parse-runs : {k : Level} {u : List Class} {t : Tree} → Parses k u t → Runs k u
 unfolding after move
-parse-runs d a-letter = refl
-parse-runs d a-falsum = refl
-parse-runs d (by-not r) = parse-runs d r
-parse-runs d (inside {u} r) = after-append move (wanted (suc d)) u (closing ∷ []) ∙ ap (λ (x : State). after move x (closing ∷ [])) (parse-runs (suc d) r)
-parse-runs d (no-and r) = parse-runs d r
-parse-runs d (by-and {u} {v} r q) = after-append move (wanted d) u (ampersand ∷ v) ∙ ap (λ (x : State). after move x (ampersand ∷ v)) (parse-runs d r) ∙ parse-runs d q
-parse-runs d (no-or r) = parse-runs d r
-parse-runs d (by-or {u} {v} r q) = after-append move (wanted d) u (bar ∷ v) ∙ ap (λ (x : State). after move x (bar ∷ v)) (parse-runs d r) ∙ parse-runs d q
-parse-runs d (no-implies r) = parse-runs d r
-parse-runs d (by-implies {u} {v} r q) = after-append move (wanted d) u (greater ∷ v) ∙ ap (λ (x : State). after move x (greater ∷ v)) (parse-runs d r) ∙ parse-runs d q
-parse-runs d (by-equal {u} {v} r q) = after-append move (wanted d) u (equals ∷ v) ∙ ap (λ (x : State). after move x (equals ∷ v)) (parse-runs d r) ∙ parse-runs d q
+parse-runs a-letter = λ e E. refl
+parse-runs a-falsum = λ e E. refl
+parse-runs (by-not r) = parse-runs r
+parse-runs (inside {u} r) = λ e E.
+    after-append move (wanted false (e ∷ E)) u (closing ∷ []) ∙ ap (λ (x : State). after move x (closing ∷ [])) (parse-runs r (e ∷ E) .1)
+parse-runs (no-and r) = parse-runs r
+parse-runs (by-and {u} {v} r q) = λ e E. joined-runs u v ampersand e e E (parse-runs r e E) refl (parse-runs q e E)
+parse-runs (no-or r) = parse-runs r
+parse-runs (by-or {u} {v} r q) = λ e E. joined-runs u v bar e e E (parse-runs r e E) refl (parse-runs q e E)
+parse-runs (no-implies r) = parse-runs r
+parse-runs (by-implies {u} {v} r q) = λ e E. joined-runs u v greater e e E (parse-runs r e E) refl (parse-runs q e E)
+parse-runs (no-equal r) = λ E. (false, parse-runs r false E)
+parse-runs (by-equal {u} {v} r q) = λ E. (true, joined-runs u v equals false true E (parse-runs r false E) refl (parse-runs q true E))
 
-misfit-run : (l : List Class) → after move misfit l ≡ had 0 → ⊥
-misfit-run l e = misfit-had (sym (misfit-stays l) ∙ e)
+pub misfit-run : (l : List Class) → ends (after move misfit l) ≡ true → ⊥
+misfit-run l e = false≢true (sym (ap ends (misfit-stays l)) ∙ e)
 
 -- Where an operand is wanted, one begins: its class has a number from 7 on.
-pub begins-operand : (l : List Class) (d : ℕ) → after move (wanted d) l ≡ had 0 → ((c : Class) (r : List Class) → l ≡ c ∷ r → c ≡ blank → ⊥) → 7 ≤ headCode l
+pub begins-operand : (l : List Class) (e : Bool) (E : List Bool) → ends (after move (wanted e E) l) ≡ true → ((c : Class) (r : List Class) → l ≡ c ∷ r → c ≡ blank → ⊥) → 7 ≤ headCode l
 unfolding after move codeOf
-begins-operand [] d e n = absurd (wanted-had e)
-begins-operand (foreign ∷ l) d e n = absurd (misfit-run l e)
-begins-operand (closing ∷ l) d e n = absurd (misfit-run l e)
-begins-operand (ampersand ∷ l) d e n = absurd (misfit-run l e)
-begins-operand (bar ∷ l) d e n = absurd (misfit-run l e)
-begins-operand (greater ∷ l) d e n = absurd (misfit-run l e)
-begins-operand (equals ∷ l) d e n = absurd (misfit-run l e)
-begins-operand (blank ∷ l) d e n = absurd (n blank l refl refl)
-begins-operand (tilde ∷ l) d e n = omega arith
-begins-operand (opening ∷ l) d e n = omega arith
-begins-operand (nought ∷ l) d e n = omega arith
-begins-operand (lowercase k ∷ l) d e n = omega arith
+begins-operand [] e E h n = absurd (false≢true h)
+begins-operand (foreign ∷ l) e E h n = absurd (misfit-run l h)
+begins-operand (closing ∷ l) e E h n = absurd (misfit-run l h)
+begins-operand (ampersand ∷ l) e E h n = absurd (misfit-run l h)
+begins-operand (bar ∷ l) e E h n = absurd (misfit-run l h)
+begins-operand (greater ∷ l) e E h n = absurd (misfit-run l h)
+begins-operand (equals ∷ l) e E h n = absurd (misfit-run l h)
+begins-operand (blank ∷ l) e E h n = absurd (n blank l refl refl)
+begins-operand (tilde ∷ l) e E h n = omega arith
+begins-operand (opening ∷ l) e E h n = omega arith
+begins-operand (nought ∷ l) e E h n = omega arith
+begins-operand (lowercase k ∷ l) e E h n = omega arith
 
--- After an operand of the weakest level the text ends, or a parenthesis closes.
-pub ends-or-closes : (l : List Class) (d : ℕ) → after move (had d) l ≡ had 0 → ((c : Class) (r : List Class) → l ≡ c ∷ r → c ≡ blank → ⊥) → Stops implication l
-    → ((l ≡ []) × (d ≡ 0)) ⊎ ((1 ≡ headCode l) × (0 < d))
+-- After a formula the text ends, or a parenthesis closes where one is open.
+abbrev pub EndsOrCloses : List Bool → List Class → Type 0
+EndsOrCloses [] l = l ≡ []
+EndsOrCloses (f ∷ E) l = 1 ≡ headCode l
+
+pub ends-or-closes : (l : List Class) (e : Bool) (E : List Bool) → ends (after move (had e E) l) ≡ true → ((c : Class) (r : List Class) → l ≡ c ∷ r → c ≡ blank → ⊥)
+    → Stops equivalence l → EndsOrCloses E l
 unfolding after move codeOf
-ends-or-closes [] d e n s = inl (refl, had-depth e)
-  where
-    had-depth : {x y : ℕ} → had x ≡ had y → x ≡ y
-    had-depth p = cc
-ends-or-closes (foreign ∷ l) d e n s = absurd (misfit-run l e)
-ends-or-closes (closing ∷ l) zero e n s = absurd (misfit-run l e)
-ends-or-closes (closing ∷ l) (suc d) e n s = inr (refl, omega arith)
-ends-or-closes (ampersand ∷ l) d e n s = absurd (s .0 refl)
-ends-or-closes (bar ∷ l) d e n s = absurd (s .1 refl)
-ends-or-closes (greater ∷ l) d e n s = absurd (s .2 refl)
-ends-or-closes (equals ∷ l) d e n s = absurd (s .3 refl)
-ends-or-closes (blank ∷ l) d e n s = absurd (n blank l refl refl)
-ends-or-closes (tilde ∷ l) d e n s = absurd (misfit-run l e)
-ends-or-closes (opening ∷ l) d e n s = absurd (misfit-run l e)
-ends-or-closes (nought ∷ l) d e n s = absurd (misfit-run l e)
-ends-or-closes (lowercase k ∷ l) d e n s = absurd (misfit-run l e)
+ends-or-closes [] e [] h n s = refl
+ends-or-closes [] e (f ∷ E) h n s = absurd (false≢true h)
+ends-or-closes (foreign ∷ l) e E h n s = absurd (misfit-run l h)
+ends-or-closes (closing ∷ l) e [] h n s = absurd (misfit-run l h)
+ends-or-closes (closing ∷ l) e (f ∷ E) h n s = refl
+ends-or-closes (ampersand ∷ l) e E h n s = absurd (s .0 refl)
+ends-or-closes (bar ∷ l) e E h n s = absurd (s .1 refl)
+ends-or-closes (greater ∷ l) e E h n s = absurd (s .2 refl)
+ends-or-closes (equals ∷ l) e E h n s = absurd (s .3 refl)
+ends-or-closes (blank ∷ l) e E h n s = absurd (n blank l refl refl)
+ends-or-closes (tilde ∷ l) e E h n s = absurd (misfit-run l h)
+ends-or-closes (opening ∷ l) e E h n s = absurd (misfit-run l h)
+ends-or-closes (nought ∷ l) e E h n s = absurd (misfit-run l h)
+ends-or-closes (lowercase k ∷ l) e E h n s = absurd (misfit-run l h)
+
+-- Where an `=` has stood, none comes next.
+pub equated-once : (l : List Class) (E : List Bool) → ends (after move (had true E) l) ≡ true → NotNext equals l
+unfolding after move codeOf
+equated-once [] E h e = omega arith
+equated-once (foreign ∷ l) E h e = misfit-run l h
+equated-once (closing ∷ l) E h e = omega arith
+equated-once (ampersand ∷ l) E h e = omega arith
+equated-once (bar ∷ l) E h e = omega arith
+equated-once (greater ∷ l) E h e = omega arith
+equated-once (equals ∷ l) E h e = misfit-run l h
+equated-once (blank ∷ l) E h e = omega arith
+equated-once (tilde ∷ l) E h e = misfit-run l h
+equated-once (opening ∷ l) E h e = misfit-run l h
+equated-once (nought ∷ l) E h e = misfit-run l h
+equated-once (lowercase k ∷ l) E h e = misfit-run l h

@@ -1,5 +1,5 @@
 -- The count for refusal 4, byte by byte.
-use mathlib.Core.Bool.{Bool, true, false, _||_, true≢false, false≢true}
+use mathlib.Core.Bool.{Bool, true, false, _||_, or-false, true≢false, false≢true}
 use mathlib.Core.List.{List, [], _∷_, _++_, map}
 use mathlib.Core.Path.{_≡_, refl, sym, _∙_, ap, subst}
 use Prim.Native.Nat.{ℕ, _+_, _-_, _*_, _≤_, _<_}
@@ -15,7 +15,7 @@ use Rattle.ipl.specs.Lists.{any}
 use Rattle.syntax.specs.Class.{Class, classOf, after}
 use Rattle.syntax.specs.Code.{codeOf, decode, classCount, joins, isLetter}
 use Rattle.syntax.specs.Size.{Size, stands, withNames, counted, total, uncounted, sizeOf, mostNamesOfByte, Brings, Counts, CountsOn}
-use Rattle.syntax.specs.declared.passes.Count.{Count}
+use Rattle.syntax.specs.declared.count.Count.{Count}
 use Rattle.syntax.proofs.Class.{by-number, class-is, decode-letter, letter-number, after-byte, after-end}
 
 -- The names that a class brings, by its number.
@@ -52,11 +52,7 @@ module _ (n : ℕ) where
 
 any-snoc : {A : Type 0} (p : A → Bool) (l : List A) (x : A) → any p (l ++ (x ∷ [])) ≡ any p l || p x
 unfolding any
-any-snoc p [] x = go (p x)
-  where
-    go : (b : Bool) → b || false ≡ b
-    go true = refl
-    go false = refl
+any-snoc p [] x = or-false (p x)
 any-snoc p (y ∷ l) x = go (p y) (any-snoc p l x)
   where
     go : (b : Bool) → any p (l ++ (x ∷ [])) ≡ any p l || p x → b || any p (l ++ (x ∷ [])) ≡ b || any p l || p x

@@ -1,15 +1,17 @@
 -- A text has at most one reading, and the function `reading` gives it.
+use mathlib.Core.Bool.{Bool, true, false}
 use mathlib.Core.List.{List, [], _∷_, _++_}
 use mathlib.Core.Option.{Option, none, some}
-use mathlib.Core.Path.{_≡_, refl, sym, _∙_, ap}
+use mathlib.Core.Path.{_≡_, refl, sym, _∙_, ap, subst}
 use Prim.Native.Nat.{ℕ, suc}
 use native.Mathlib.Omega.{arith}
 use Rattle.syntax.specs.Class.{Class, foreign, closing, ampersand, bar, greater, equals, blank, tilde, opening, nought, lowercase, tokens, after}
 use Rattle.syntax.specs.Grammar as grammar
-use Rattle.syntax.specs.Grammar.{Tree, Level, negation, conjunction, disjunction, implication, Parses, a-letter, a-falsum}
-use Rattle.syntax.specs.Grammar.{by-not, inside, no-and, by-and, no-or, by-or, no-implies, by-implies, by-equal, Reads}
-use Rattle.syntax.specs.Scan.{State, misfit, wanted, had, closed, move}
-use Rattle.syntax.specs.Reading.{Outer, top, paren, implied, equated, Reader, stuck, want, have, negated, joinLeft, operand, shut, finish, readToken, result, reading}
+use Rattle.syntax.specs.Grammar.{Tree, Level, negation, conjunction, disjunction, implication, equivalence, Parses, a-letter, a-falsum}
+use Rattle.syntax.specs.Grammar.{by-not, inside, no-and, by-and, no-or, by-or, no-implies, by-implies, no-equal, by-equal, Reads}
+use Rattle.syntax.specs.Scan as scan
+use Rattle.syntax.specs.Scan.{State, misfit, wanted, had, move, ends}
+use Rattle.syntax.specs.Reading.{Outer, top, paren, implied, equated, Reader, stuck, want, have, negated, joinLeft, operand, shut, equate, finish, readToken, result, reading}
 use Rattle.syntax.proofs.Class.{after-append}
 use Rattle.syntax.proofs.Beginning.{scan-tokens, scanned-formula}
 
@@ -20,97 +22,117 @@ record Alternatives (t : Tree) (k : Outer) (r : Reader) : Type 0 where
   whole : joinLeft grammar.or left last ≡ t
   reached : r ≡ have last left k
 
--- A formula was read: whatever closes it closes t.
-record Whole (t : Tree) (k : Outer) (r : Reader) : Type 0 where
-  last : Tree
-  left : Option Tree
-  outer : Outer
-  reached : r ≡ have last left outer
-  shuts : shut (joinLeft grammar.or left last) outer ≡ shut t k
-  finishes : finish (joinLeft grammar.or left last) outer ≡ finish t k
+-- A formula was read: whatever closes or ends it has t. One without an `=` at its own level: so has an `=` after it.
+abbrev Whole : Tree → Outer → Reader → Type 0
+Whole t k r = (readToken r closing ≡ shut t k) × (result r ≡ finish t k)
+
+abbrev Implication : Tree → Outer → Reader → Type 0
+Implication t k r = Whole t k r × (readToken r equals ≡ equate t k)
+
+-- No `=` has stood, and no `>` waits.
+abbrev Fresh : Outer → Type 0
+Fresh k = (t : Tree) → equate t k ≡ want 0 none none (equated t k)
 
 -- What the tokens of a formula of each level do to the reading.
 abbrev Leads : Level → List Class → Tree → Type 0
 Leads negation u t = (n : ℕ) (a o : Option Tree) (k : Outer) → after readToken (want n a o k) u ≡ have (operand n a t) o k
 Leads conjunction u t = (o : Option Tree) (k : Outer) → after readToken (want 0 none o k) u ≡ have t o k
 Leads disjunction u t = (k : Outer) → Alternatives t k (after readToken (want 0 none none k) u)
-Leads implication u t = (k : Outer) → Whole t k (after readToken (want 0 none none k) u)
+Leads implication u t = (k : Outer) → Implication t k (after readToken (want 0 none none k) u)
+Leads equivalence u t = (k : Outer) → Fresh k → Whole t k (after readToken (want 0 none none k) u)
 
-module _ (r : Reader) (u v : List Class) (c : Class) {q : Reader} (e : after readToken r u ≡ q) where
+module _ (u v : List Class) (c : Class) {q : Reader} where
   -- The tokens of a part, an operator, and the rest.
-  then-token : after readToken r (u ++ (c ∷ v)) ≡ after readToken (readToken q c) v
+  then-token : (r : Reader) → readToken (after readToken r u) c ≡ q → after readToken r (u ++ (c ∷ v)) ≡ after readToken q v
   unfolding after
-  then-token = after-append readToken r u (c ∷ v) ∙ ap (λ (x : Reader). after readToken (readToken x c) v) e
+  then-token r e = after-append readToken r u (c ∷ v) ∙ ap (λ (x : Reader). after readToken x v) e
 
--- After the left of `>` or `=`: what is read to its right closes the whole.
-module _ (u v : List Class) (p q w : Tree) (c : Class) (K : Tree → Outer → Outer) (k : Outer)
-    (step : (t : Tree) (o : Option Tree) → readToken (have t o k) c ≡ want 0 none none (K (joinLeft grammar.or o t) k))
-    (shuts : shut q (K p k) ≡ shut w k) (finishes : finish q (K p k) ≡ finish w k) where
-  weakest : Alternatives p k (after readToken (want 0 none none k) u) → Whole q (K p k) (after readToken (want 0 none none (K p k)) v) → Whole w k (after readToken (want 0 none none k) (u ++ (c ∷ v)))
-  weakest x y = record {
-    last = y .last;
-    left = y .left;
-    outer = y .outer;
-    reached =
-        then-token (want 0 none none k) u v c (x .reached)
-        ∙ ap (λ (z : Reader). after readToken z v) (step (x .last) (x .left) ∙ ap (λ (t : Tree). want 0 none none (K t k)) (x .whole))
-        ∙ y .reached;
-    shuts = y .shuts ∙ shuts;
-    finishes = y .finishes ∙ finishes;
-  }
+module _ (u v : List Class) (p q : Tree) where
+  or-leads : Leads disjunction u p → Leads conjunction v q → Leads disjunction (u ++ (bar ∷ v)) (grammar.or p q)
+  unfolding readToken
+  or-leads r s k =
+      let x = r k in
+      let step = ap (λ (z : Reader). readToken z bar) (x .reached) ∙ ap (λ (t : Tree). want 0 none (some t) k) (x .whole) in
+      record { last = q; left = some p; whole = refl; reached = then-token u v bar (want 0 none none k) step ∙ s (some p) k }
+
+  -- What is read to the right of `>` or `=` closes the whole.
+  implies-leads : Leads disjunction u p → Leads implication v q → Leads implication (u ++ (greater ∷ v)) (grammar.implies p q)
+  unfolding readToken shut finish equate
+  implies-leads r s k =
+      let x = r k in
+      let step = ap (λ (z : Reader). readToken z greater) (x .reached) ∙ ap (λ (t : Tree). want 0 none none (implied t k)) (x .whole) in
+      subst (Implication (grammar.implies p q) k) (sym (then-token u v greater (want 0 none none k) step)) (s (implied p k))
+
+  equal-leads : Leads implication u p → Leads implication v q → Leads equivalence (u ++ (equals ∷ v)) (grammar.equal p q)
+  unfolding shut finish
+  equal-leads r s k fresh =
+      subst (Whole (grammar.equal p q) k) (sym (then-token u v equals (want 0 none none k) (r k .1 ∙ fresh p))) (s (equated p k) .0)
+
+-- A disjunction alone.
+implication-leads : (u : List Class) (p : Tree) → Leads disjunction u p → Leads implication u p
+unfolding readToken result
+implication-leads u p r k =
+    let x = r k in
+    let is : have (x .last) (x .left) k ≡ after readToken (want 0 none none k) u = sym (x .reached) in
+    subst (Implication p k) is ((ap (λ (t : Tree). shut t k) (x .whole), ap (λ (t : Tree). finish t k) (x .whole)), ap (λ (t : Tree). equate t k) (x .whole))
 
 leads : {k : Level} {u : List Class} {t : Tree} → Parses k u t → Leads k u t
-unfolding after readToken negated shut finish
+unfolding after readToken negated shut equate
 leads a-letter = λ n a o k. refl
 leads a-falsum = λ n a o k. refl
 leads (by-not r) = λ n a o k. leads r (suc n) a o k
-leads (inside {u} r) = λ n a o k. let x = leads r (paren n a o k) in then-token (want 0 none none (paren n a o k)) u [] closing (x .reached) ∙ x .shuts
+leads (inside {u} r) = λ n a o k. then-token u [] closing (want 0 none none (paren n a o k)) (leads r (paren n a o k) (λ p. refl) .0)
 leads (no-and r) = λ o k. leads r 0 none o k
-leads (by-and {u} {v} {p} r s) = λ o k. then-token (want 0 none o k) u v ampersand (leads r o k) ∙ leads s 0 (some p) o k
+leads (by-and {u} {v} {p} r s) = λ o k. then-token u v ampersand (want 0 none o k) (ap (λ (z : Reader). readToken z ampersand) (leads r o k)) ∙ leads s 0 (some p) o k
 leads (no-or {p = p} r) = λ k. record { last = p; left = none; whole = refl; reached = leads r none k }
-leads (by-or {u} {v} {p} {q} r s) = λ k.
-    let x = leads r k in
-    record {
-      last = q;
-      left = some p;
-      whole = refl;
-      reached = then-token (want 0 none none k) u v bar (x .reached) ∙ ap (λ (t : Tree). after readToken (want 0 none (some t) k) v) (x .whole) ∙ leads s (some p) k;
-    }
-leads (no-implies r) = λ k.
-    let x = leads r k in
-    record { last = x .last; left = x .left; outer = k; reached = x .reached; shuts = ap (λ (t : Tree). shut t k) (x .whole); finishes = ap (λ (t : Tree). finish t k) (x .whole) }
-leads (by-implies {u} {v} {p} {q} r s) = λ k. weakest u v p q (grammar.implies p q) greater implied k (λ t o. refl) refl refl (leads r k) (leads s (implied p k))
-leads (by-equal {u} {v} {p} {q} r s) = λ k. weakest u v p q (grammar.equal p q) equals equated k (λ t o. refl) refl refl (leads r k) (leads s (equated p k))
+leads (by-or {u} {v} {p} {q} r s) = or-leads u v p q (leads r) (leads s)
+leads (no-implies {u} {p} r) = implication-leads u p (leads r)
+leads (by-implies {u} {v} {p} {q} r s) = implies-leads u v p q (leads r) (leads s)
+leads (no-equal r) = λ k fresh. leads r k .0
+leads (by-equal {u} {v} {p} {q} r s) = equal-leads u v p q (leads r) (leads s)
 
 pub reading-of : (s : List ℕ) (t : Tree) → Reads s t → reading s ≡ some t
-unfolding reading result finish
-reading-of s t r = let x = leads r top in ap result (x .reached) ∙ x .finishes
+unfolding reading finish equate
+reading-of s t r = leads r top (λ p. refl) .1
 
 -- "A text has at most one reading."
 pub unique : (s : List ℕ) (t u : Tree) → Reads s t → Reads s u → t ≡ u
 unique s t u r q = let e : some t ≡ some u = sym (reading-of s t r) ∙ reading-of s u q in cc
 
 -- The reading gets stuck exactly where the scan meets a token that does not fit.
-depth : Outer → ℕ
-depth top = 0
-depth (paren n a o k) = suc (depth k)
-depth (implied l k) = depth k
-depth (equated l k) = depth k
+equatedIn : Outer → Bool
+equatedIn top = false
+equatedIn (paren n a o k) = false
+equatedIn (implied l k) = equatedIn k
+equatedIn (equated l k) = true
+
+around : Outer → List Bool
+around top = []
+around (paren n a o k) = equatedIn k ∷ around k
+around (implied l k) = around k
+around (equated l k) = around k
 
 stateOf : Reader → State
 stateOf stuck = misfit
-stateOf (want n a o k) = wanted (depth k)
-stateOf (have t o k) = had (depth k)
+stateOf (want n a o k) = wanted (equatedIn k) (around k)
+stateOf (have t o k) = had (equatedIn k) (around k)
 
-shut-state : (k : Outer) (t : Tree) → stateOf (shut t k) ≡ closed (depth k)
-unfolding shut stateOf depth
+shut-state : (k : Outer) (t : Tree) → stateOf (shut t k) ≡ scan.closed (around k)
+unfolding shut stateOf around
 shut-state top t = refl
 shut-state (paren n a o k) t = refl
 shut-state (implied l k) t = shut-state k (grammar.implies l t)
 shut-state (equated l k) t = shut-state k (grammar.equal l t)
 
+equate-state : (k : Outer) (t : Tree) → stateOf (equate t k) ≡ scan.equated (equatedIn k) (around k)
+unfolding equate stateOf equatedIn around
+equate-state top t = refl
+equate-state (paren n a o k) t = refl
+equate-state (implied l k) t = equate-state k (grammar.implies l t)
+equate-state (equated l k) t = refl
+
 step-state : (r : Reader) (c : Class) → stateOf (readToken r c) ≡ move (stateOf r) c
-unfolding readToken stateOf move depth
+unfolding readToken stateOf move equatedIn around
 step-state stuck c = refl
 step-state (want n a o k) foreign = refl
 step-state (want n a o k) closing = refl
@@ -128,7 +150,7 @@ step-state (have t o k) closing = shut-state k (joinLeft grammar.or o t)
 step-state (have t o k) ampersand = refl
 step-state (have t o k) bar = refl
 step-state (have t o k) greater = refl
-step-state (have t o k) equals = refl
+step-state (have t o k) equals = equate-state k (joinLeft grammar.or o t)
 step-state (have t o k) blank = refl
 step-state (have t o k) tilde = refl
 step-state (have t o k) opening = refl
@@ -140,24 +162,24 @@ unfolding after
 steps-state [] r = refl
 steps-state (c ∷ l) r = steps-state l (readToken r c) ∙ ap (λ (x : State). after move x l) (step-state r c)
 
-finished : (k : Outer) (t u : Tree) → finish t k ≡ some u → depth k ≡ 0
-unfolding finish depth
-finished top t u e = refl
-finished (paren n a o k) t u e = let z : _≡_ {A = ℕ} 0 1 = cc in absurd (omega arith)
-finished (implied l k) t u e = finished k (grammar.implies l t) u e
-finished (equated l k) t u e = finished k (grammar.equal l t) u e
+finished : (k : Outer) (t u : Tree) (e : Bool) → finish t k ≡ some u → ends (had e (around k)) ≡ true
+unfolding finish around
+finished top t u e h = refl
+finished (paren n a o k) t u e h = let z : _≡_ {A = ℕ} 0 1 = cc in absurd (omega arith)
+finished (implied l k) t u e h = finished k (grammar.implies l t) u e h
+finished (equated l k) t u e h = finished k (grammar.equal l t) u e h
 
-result-state : (r : Reader) (t : Tree) → result r ≡ some t → stateOf r ≡ had 0
+result-state : (r : Reader) (t : Tree) → result r ≡ some t → ends (stateOf r) ≡ true
 unfolding result stateOf
 result-state stuck t e = let z : _≡_ {A = ℕ} 0 1 = cc in absurd (omega arith)
 result-state (want n a o k) t e = let z : _≡_ {A = ℕ} 0 1 = cc in absurd (omega arith)
-result-state (have u o k) t e = ap had (finished k (joinLeft grammar.or o u) t e)
+result-state (have u o k) t e = finished k (joinLeft grammar.or o u) t (equatedIn k) e
 
 pub reading-reads : (s : List ℕ) (t : Tree) → reading s ≡ some t → Reads s t
-unfolding reading stateOf depth
+unfolding reading stateOf equatedIn around
 reading-reads s t e =
     let r = after readToken (want 0 none none top) (tokens s) in
-    let f = scanned-formula s (scan-tokens s ∙ sym (steps-state (tokens s) (want 0 none none top)) ∙ result-state r t e) in
+    let f = scanned-formula s (ap ends (scan-tokens s ∙ sym (steps-state (tokens s) (want 0 none none top))) ∙ result-state r t e) in
     let q : some (f .0) ≡ some t = sym (reading-of s (f .0) (f .1)) ∙ e in
     let same : f .0 ≡ t = cc in
     rw same at (f .1)

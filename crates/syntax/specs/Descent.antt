@@ -1,5 +1,5 @@
 -- What the functions of the descent ask and give. A position stands for the tokens from it on.
-use mathlib.Core.Bool.{cond}
+use mathlib.Core.Bool.{Bool, true, cond}
 use mathlib.Core.List.{List, [], _∷_, _++_}
 use mathlib.Core.Path.{_≡_}
 use Prim.Native.Nat.{ℕ, _-_, _≤_, _<_}
@@ -7,9 +7,9 @@ use lib.Dec.{eqb}
 use lib.ListN.{length, drop}
 use Rattle.syntax.specs.Class.{Class, ampersand, bar, greater, equals, tokens, after}
 use Rattle.syntax.specs.Code.{codeOf}
-use Rattle.syntax.specs.Grammar.{Tree, Level, negation, conjunction, disjunction, implication, Parses}
-use Rattle.syntax.specs.Nodes.{Implies, Entry, letter, falsum, Named, withCompound, withEquivalence, withTree}
-use Rattle.syntax.specs.Scan.{move, wanted, had}
+use Rattle.syntax.specs.Grammar.{Tree, Level, negation, conjunction, disjunction, implication, equivalence, Parses}
+use Rattle.syntax.specs.Nodes.{Entry, letter, falsum, withTree}
+use Rattle.syntax.specs.Scan.{move, wanted, ends}
 use Rattle.syntax.specs.Parts.{held, Sound, Holds}
 use Rattle.syntax.specs.declared.Parts.{Parts}
 use Rattle.syntax.specs.declared.bytes.Token.{Token}
@@ -31,10 +31,6 @@ tail (c ∷ l) = l
 abbrev pub leafOf : ℕ → Entry
 leafOf class = cond (eqb class 9) falsum (letter (class - 10))
 
--- The table with p > q or p = q, by the class of the token between them.
-abbrev pub withJoined : ℕ → List Entry → ℕ → ℕ → Named
-withJoined class T a b = cond (eqb class 5) (withEquivalence T a b) (withCompound T Implies a b)
-
 -- The first token from a position on, and the position after it.
 pub record NextToken (s : List ℕ) (at : ℕ) (t : Token) : Type 0 where
   pub class-is : t .class ≡ headCode (rest s at)
@@ -44,8 +40,9 @@ pub record NextToken (s : List ℕ) (at : ℕ) (t : Token) : Type 0 where
 
 -- An operand is wanted at a position, and the text fits from there to its end.
 pub record Wanted (s : List ℕ) (at : ℕ) : Type 0 where
-  pub depth : ℕ
-  pub fits : after move (wanted depth) (rest s at) ≡ had 0
+  pub equated : Bool
+  pub outer : List Bool
+  pub fits : ends (after move (wanted equated outer) (rest s at)) ≡ true
   pub inside : at ≤ length s
 
 -- An operand of the level was read, and the table p has its parts.
@@ -66,7 +63,8 @@ abbrev pub Stops : Level → List Class → Type 0
 Stops negation l = Unit {0}
 Stops conjunction l = NotNext ampersand l
 Stops disjunction l = NotNext ampersand l × NotNext bar l
-Stops implication l = NotNext ampersand l × NotNext bar l × NotNext greater l × NotNext equals l
+Stops implication l = NotNext ampersand l × NotNext bar l × NotNext greater l
+Stops equivalence l = NotNext ampersand l × NotNext bar l × NotNext greater l × NotNext equals l
 
 pub record Asks (s : List ℕ) (at : ℕ) (p : Parts) : Type 0 where
   pub wanted : Wanted s at

@@ -19,9 +19,9 @@ opened (or p q) = Formula.or (opened p) (opened q)
 opened (implies p q) = Formula.implies (opened p) (opened q)
 opened (equal p q) = iff (opened p) (opened q)
 
--- "Binding, tightest first: `~`; `&`; `|` (both group to the left); then `>` and `=` on one level, grouping to the right."
+-- "Binding, tightest first: `~`; `&`; `|` (both group to the left); then `>`", which groups to the right; change 2: "`=` binds weaker than `>`".
 pub data Level : Type 0 where
-  negation conjunction disjunction implication : Level
+  negation conjunction disjunction implication equivalence : Level
 
 pub data Parses : Level → List Class → Tree → Type 0 where
   a-letter : {l : ℕ} → Parses negation (lowercase l ∷ []) (letter l)
@@ -29,18 +29,20 @@ pub data Parses : Level → List Class → Tree → Type 0 where
   -- "`~p` is p > 0"
   by-not : {u : List Class} {p : Tree} → Parses negation u p → Parses negation (tilde ∷ u) (implies p falsum)
   -- "Levels of the grammar call one another through parentheses."
-  inside : {u : List Class} {p : Tree} → Parses implication u p → Parses negation (opening ∷ (u ++ (closing ∷ []))) p
+  inside : {u : List Class} {p : Tree} → Parses equivalence u p → Parses negation (opening ∷ (u ++ (closing ∷ []))) p
   no-and : {u : List Class} {p : Tree} → Parses negation u p → Parses conjunction u p
   by-and : {u v : List Class} {p q : Tree} → Parses conjunction u p → Parses negation v q → Parses conjunction (u ++ (ampersand ∷ v)) (and p q)
   no-or : {u : List Class} {p : Tree} → Parses conjunction u p → Parses disjunction u p
   by-or : {u v : List Class} {p q : Tree} → Parses disjunction u p → Parses conjunction v q → Parses disjunction (u ++ (bar ∷ v)) (or p q)
   no-implies : {u : List Class} {p : Tree} → Parses disjunction u p → Parses implication u p
   by-implies : {u v : List Class} {p q : Tree} → Parses disjunction u p → Parses implication v q → Parses implication (u ++ (greater ∷ v)) (implies p q)
-  by-equal : {u v : List Class} {p q : Tree} → Parses disjunction u p → Parses implication v q → Parses implication (u ++ (equals ∷ v)) (equal p q)
+  -- "`p=q=r` is no formula": one `=`, or none.
+  no-equal : {u : List Class} {p : Tree} → Parses implication u p → Parses equivalence u p
+  by-equal : {u v : List Class} {p q : Tree} → Parses implication u p → Parses implication v q → Parses equivalence (u ++ (equals ∷ v)) (equal p q)
 
 -- The text reads as the tree, "spaces anywhere"; it is a formula; it begins some formula.
 abbrev pub Reads : List ℕ → Tree → Type 0
-Reads s t = Parses implication (tokens s) t
+Reads s t = Parses equivalence (tokens s) t
 
 abbrev pub IsFormula : List ℕ → Type 0
 IsFormula s = (t : Tree) × Reads s t

@@ -11,7 +11,7 @@ use Rattle.syntax.specs.Grammar.{Tree}
 use Rattle.syntax.specs.Reading.{reading}
 use Rattle.syntax.specs.Nodes.{nodes, named}
 use Rattle.syntax.specs.Refusal.{mostBytes, mostOpen, mostNames, Refused, Accepted}
-use Rattle.syntax.specs.Scan.{wanted, fitting}
+use Rattle.syntax.specs.Scan.{start, fitting}
 
 pub data Judgement : Type 0 where
   refused : ℕ → ℕ → Judgement
@@ -33,7 +33,7 @@ judgeTree place (some t) = cond (ltb mostNames (named (nodes t .table))) (refuse
 unfoldable pub judge : List ℕ → Judgement
 judge s =
     cond (eqb (length s) 0 || ltb mostBytes (length s)) (refused 1 0)
-    (cond (deepAfter 0 0 s) (refused 2 0) (judgeTree (fitting (wanted 0) (map classOf s)) (reading s)))
+    (cond (deepAfter 0 0 s) (refused 2 0) (judgeTree (fitting start (map classOf s)) (reading s)))
 
 abbrev pub Right : List ℕ → Judgement → Type 0
 Right s (refused number place) = Refused s number place

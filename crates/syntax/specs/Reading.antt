@@ -6,8 +6,8 @@ use Prim.Native.Nat.{ℕ, zero, suc}
 use Rattle.syntax.specs.Class.{Class, foreign, closing, ampersand, bar, greater, equals, blank, tilde, opening, nought, lowercase, tokens, after}
 use Rattle.syntax.specs.Grammar.{Tree, letter, falsum, and, or, implies, equal}
 
--- What waits for a formula of the weakest level: nothing; a parenthesis, with the `~`, the left of `&` and the left of `|` before it;
--- the left of `>` or `=`.
+-- What waits for an operand of `>` or `=`, or for a whole formula: nothing; a parenthesis, with the `~`, the left of `&` and the left of
+-- `|` before it; the left of `>` or `=`.
 pub data Outer : Type 0 where
   top : Outer
   paren : ℕ → Option Tree → Option Tree → Outer → Outer
@@ -36,6 +36,13 @@ shut t (paren n a o k) = have (operand n a t) o k
 shut t (implied l k) = shut (implies l t) k
 shut t (equated l k) = shut (equal l t) k
 
+-- An `=`: the implications to its left are complete, and none has stood at its level.
+unfoldable pub equate : Tree → Outer → Reader
+equate t top = want 0 none none (equated t top)
+equate t (paren n a o k) = want 0 none none (equated t (paren n a o k))
+equate t (implied l k) = equate (implies l t) k
+equate t (equated l k) = stuck
+
 unfoldable pub finish : Tree → Outer → Option Tree
 finish t top = some t
 finish t (paren n a o k) = none
@@ -60,7 +67,7 @@ readToken (have t o k) closing = shut (joinLeft or o t) k
 readToken (have t o k) ampersand = want 0 (some t) o k
 readToken (have t o k) bar = want 0 none (some (joinLeft or o t)) k
 readToken (have t o k) greater = want 0 none none (implied (joinLeft or o t) k)
-readToken (have t o k) equals = want 0 none none (equated (joinLeft or o t) k)
+readToken (have t o k) equals = equate (joinLeft or o t) k
 readToken (have t o k) blank = have t o k
 readToken (have t o k) tilde = stuck
 readToken (have t o k) opening = stuck

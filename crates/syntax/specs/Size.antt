@@ -10,7 +10,7 @@ use Rattle.atoms.specs.Words.{num}
 use Rattle.ipl.specs.Lists.{any}
 use Rattle.syntax.specs.Class.{Class, foreign, closing, ampersand, bar, greater, equals, blank, tilde, opening, nought, lowercase, classOf, after}
 use Rattle.syntax.specs.Code.{decode, isLetter}
-use Rattle.syntax.specs.declared.passes.Count.{Count}
+use Rattle.syntax.specs.declared.count.Count.{Count}
 
 pub record Size : Type 0 where
   pub letters : List ℕ

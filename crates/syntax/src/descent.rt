@@ -1,6 +1,6 @@
 // The reader functions, one for each level of the grammar: they call one another through parentheses, and the bytes left fall.
 // The passes have judged the text, so an operand stands wherever one is wanted, and few parentheses are open and few connectives
-// follow: the depth of the calls is bounded. `leaf` and `joined` stand apart to keep the frames of the recursion small.
+// follow: the depth of the calls is bounded. `leaf` stands apart to keep the frames of the recursion small.
 use super::Connective;
 use super::Part;
 use super::Parts;
@@ -12,7 +12,7 @@ ghost use mathlib.Core.Path.{_≡_};
 ghost use Prim.Native.Nat.{_≤_};
 ghost use Rattle.syntax.specs.Nodes.{withLeaf};
 ghost use Rattle.syntax.specs.Parts.{held, Sound, Holds};
-ghost use Rattle.syntax.specs.Descent.{leafOf, withJoined, Asks, Gives};
+ghost use Rattle.syntax.specs.Descent.{leafOf, Asks, Gives};
 ghost use Rattle.syntax.specs.Grammar.{Level};
 
 // ⊥ or a letter, by its class.
@@ -27,30 +27,30 @@ fn leaf(parts: Parts, t: Token) -> Parsed
     table::leaf(parts, Part::Letter(letter), t.next)
 }
 
-// p > q or p = q, by the class of the token between them.
-fn joined(class: u8, left: u8, right: Parsed) -> Parsed
-    requires { ⌜ Sound (right .parts) ⌝ }
-    ensures { λ r. ⌜ (r .next ≡ right .next) × Holds (withJoined class (held (right .parts)) left (right .root)) r ⌝ }
+pub fn equivalence(s: &[u8], at: usize, parts: Parts) -> Parsed
+    requires { ⌜ Asks (now s) at parts ⌝ }
+    ensures { λ r. ⌜ Gives Level.equivalence (now (s .entry)) at parts r ⌝ }
 {
-    if class == bytes::EQUALS {
-        return table::equivalence(left, right);
+    let mut whole = implication(s, at, parts);
+    let t = bytes::next_token(s, whole.next);
+    if t.class == bytes::EQUALS {
+        let right = implication(s, t.next, whole.parts);
+        whole = table::equivalence(whole.root, right);
     }
-    table::compound(Connective::Implies, left, right)
+    whole
 }
 
-pub fn implication(s: &[u8], at: usize, parts: Parts) -> Parsed
+fn implication(s: &[u8], at: usize, parts: Parts) -> Parsed
     requires { ⌜ Asks (now s) at parts ⌝ }
     ensures { λ r. ⌜ Gives Level.implication (now (s .entry)) at parts r ⌝ }
 {
-    let left = disjunction(s, at, parts);
-    let t = bytes::next_token(s, left.next);
-    match t.class {
-        bytes::IMPLIES | bytes::EQUALS => {
-            let right = implication(s, t.next, left.parts);
-            joined(t.class, left.root, right)
-        }
-        _ => left,
+    let mut whole = disjunction(s, at, parts);
+    let t = bytes::next_token(s, whole.next);
+    if t.class == bytes::IMPLIES {
+        let right = implication(s, t.next, whole.parts);
+        whole = table::compound(Connective::Implies, whole.root, right);
     }
+    whole
 }
 
 fn disjunction(s: &[u8], at: usize, parts: Parts) -> Parsed
@@ -92,7 +92,7 @@ fn negation(s: &[u8], at: usize, parts: Parts) -> Parsed
         return table::negation(negation(s, t.next, parts));
     }
     if t.class == bytes::OPENING {
-        let mut inner = implication(s, t.next, parts);
+        let mut inner = equivalence(s, t.next, parts);
         let close = bytes::next_token(s, inner.next);
         inner.next = close.next;
         return inner;

@@ -3,8 +3,10 @@ ghost use Rattle.syntax.specs.Answer.{Answers, Refuses};
 
 mod bytes;
 mod classes;
+mod count;
 mod descent;
-mod passes;
+mod parentheses;
+mod scan;
 mod table;
 
 // The limits of a text.
@@ -68,16 +70,16 @@ pub fn read(text: &[u8]) -> Reading
     if MOST_BYTES < text.len() {
         return refused(1, 0);
     }
-    if passes::too_deep(text) {
+    if parentheses::too_deep(text) {
         return refused(2, 0);
     }
-    if let passes::Scan::Fault(place) = passes::find_fault(text) {
+    if let scan::Scan::Fault(place) = scan::find_fault(text) {
         return refused(3, place);
     }
-    if MOST_NAMES < passes::size(text) {
+    if MOST_NAMES < count::size(text) {
         return refused(4, 0);
     }
-    let whole = descent::implication(text, 0, table::empty());
+    let whole = descent::equivalence(text, 0, table::empty());
     let parts = whole.parts;
     Reading {
         outcome: Outcome::Formula(whole.root),

@@ -1,8 +1,9 @@
 -- Each answer by the line that was judged last; the laws stand in Judgement.
 use mathlib.Core.Logic.{inl, inr}
+use mathlib.Core.Bool.{true}
 use mathlib.Core.Path.{_≡_, subst}
 use Rattle.syntax.specs.Refusal.{BadLength, TooDeep, line-1}
-use Rattle.syntax.specs.Scan.{had, Scanned, scanned}
+use Rattle.syntax.specs.Scan.{ends, Scanned, scanned}
 use Rattle.syntax.proofs.Judgement.{answer-refused, length-right, refused-deep, depth-right, refused-fault, refused-large, accepted, start-asks}
 use borrow.Author.Needs.{needs}
 use Rattle.syntax.proofs.read.Statement.{statement}
@@ -15,7 +16,7 @@ length-is c = length-right (c .before .before .before .args .text .now) (c .befo
 depth-is : (c : tie.Else3) → TooDeep (c .before .before .before .before .before .args .text .now) → ⊥
 depth-is c = depth-right _ (length-is (c .before .before)) _ (c .before .too-deep .ensures) (c .if3 .left)
 
-fits : (c : tie.After-enum-told) → scanned (c .before .before .before .before .before .before .before .before .args .text .now) ≡ had 0
+fits : (c : tie.After-enum-told) → ends (scanned (c .before .before .before .before .before .before .before .before .args .text .now)) ≡ true
 fits c = subst (Scanned _) (c .enum-told .given .1) (c .before .before .find-fault .ensures)
 
 returns : tie.Need-returns
@@ -42,8 +43,8 @@ returns-5 c =
     let large = refused-large _ (length-is (d .before .before)) (depth-is d) (fits e) _ (c .before .before .size .ensures) (c .before .if4 .taken) in
     answer-refused _ _ _ _ large (c .refused5 .ensures)
 
-implication-requires : tie.Need-implication-requires
-implication-requires c κs = start-asks _ (fits (c .before .before .before)) _ (c .empty .ensures)
+equivalence-requires : tie.Need-equivalence-requires
+equivalence-requires c κs = start-asks _ (fits (c .before .before .before)) _ (c .empty .ensures)
 
 returns-6 : tie.Need-returns-6
 returns-6 c =
@@ -51,7 +52,7 @@ returns-6 c =
     let e = sized .before .before in
     let d = e .before .before .before in
     accepted _ (length-is (d .before .before)) (depth-is d) (fits e) _ (sized .before .size .ensures) (sized .if4 .left)
-    _ (c .before .before .empty .ensures) _ (c .before .implication .ensures)
+    _ (c .before .before .empty .ensures) _ (c .before .equivalence .ensures)
 
 pub read-spec : {M : Type 1} → statement M
 read-spec =
@@ -64,7 +65,7 @@ read-spec =
     (λ c κs. search needs)
     (λ c κs. search needs)
     returns-3
-    (λ c κs. search needs)
+    (λ c κs. depth-is c)
     (λ c. search needs)
     (λ c κs. search needs)
     returns-4
@@ -73,5 +74,5 @@ read-spec =
     (λ c κs. search needs)
     returns-5
     (λ c κs. search needs)
-    implication-requires
+    equivalence-requires
     returns-6)

@@ -9,7 +9,7 @@ use outside::random::{bytes_changed, formula, Random, Style};
 use outside::report::Settled;
 use outside::search::{Step, Verdict};
 
-const FORMULAS: [&str; 8] = ["p>p", "0", "0>0", "p|~p", "((p>q)>p)>p", "(p>q>r)>(p>q)>p>r", "~~(p|~p)", "(p=q)=q=p"];
+const FORMULAS: [&str; 8] = ["p>p", "0", "0>0", "p|~p", "((p>q)>p)>p", "(p>q>r)>(p>q)>p>r", "~~(p|~p)", "(p=q)=(q=p)"];
 
 pub fn compare(random: &mut Random, counts: &mut Counts) {
     for input in FORMULAS {

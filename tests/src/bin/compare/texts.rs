@@ -3,7 +3,7 @@
 use crate::both;
 use crate::Counts;
 use outside::random::Random;
-use outside::texts::{damaged, drawn, limits, with_every_connective, BYTES, CLOSE_TO_FORMULAS};
+use outside::texts::{damaged, drawn, limits, nested, with_every_connective, BYTES, CLOSE_TO_FORMULAS};
 
 pub fn compare(random: &mut Random, counts: &mut Counts) {
     for input in limits() {
@@ -20,6 +20,9 @@ pub fn compare(random: &mut Random, counts: &mut Counts) {
     for _ in 0..20_000 {
         let length = random.below(14);
         settle(&drawn(random, CLOSE_TO_FORMULAS, length), counts);
+    }
+    for _ in 0..10_000 {
+        settle(&nested(random), counts);
     }
     for _ in 0..5_000 {
         let length = random.below(60);

@@ -3,7 +3,7 @@
 use outside::naming::{single, FALSE};
 use outside::random::{bytes_changed, formula, Random, Style};
 use outside::script::{hexadecimal, Dialogue};
-use outside::texts::damaged;
+use outside::texts::{damaged, nested};
 use std::collections::BTreeMap;
 
 /// How often each kind of answer was met.
@@ -128,6 +128,7 @@ impl<'a> Author<'a> {
             1 => formula(self.random, &style, 60),
             2 => vec![b' '; [0, 4_096, 4_097][self.random.below(3)]],
             3..=4 => damaged(self.random),
+            5 => nested(self.random),
             _ => {
                 let size = self.random.below(14);
                 formula(self.random, &style, size)

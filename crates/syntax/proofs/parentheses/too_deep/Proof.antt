@@ -5,8 +5,8 @@ use lib.ListN.{length}
 use Rattle.syntax.proofs.Depth.{Shallow}
 use borrow.Author.Needs.{needs}
 use native.Mathlib.Omega.{arith}
-use Rattle.syntax.proofs.passes.too_deep.Statement.{statement}
-use Rattle.syntax.proofs.passes.too_deep.Tie as tie
+use Rattle.syntax.proofs.parentheses.too_deep.Statement.{statement}
+use Rattle.syntax.proofs.parentheses.too_deep.Tie as tie
 
 abbrev Inv-loop : tie.InvT-loop
 Inv-loop s opened₀ closed₀ i₀ opened closed i = Shallow s opened closed i

@@ -2,8 +2,8 @@
 use mathlib.Core.Path.{sym, _∙_}
 use borrow.Author.Needs.{needs}
 use Rattle.syntax.proofs.Size.{equals-brings, not-brings, binary-brings, none-brings}
-use Rattle.syntax.proofs.passes.names_of.Statement.{statement}
-use Rattle.syntax.proofs.passes.names_of.Tie as tie
+use Rattle.syntax.proofs.count.names_of.Statement.{statement}
+use Rattle.syntax.proofs.count.names_of.Tie as tie
 
 returns : tie.Need-returns
 returns c = equals-brings _ (c .if1 .taken)

@@ -3,8 +3,8 @@ use mathlib.Core.Path.{sym, _∙_}
 use borrow.Author.Needs.{needs}
 use Rattle.syntax.proofs.Class.{letter-number}
 use Rattle.syntax.proofs.Size.{letter-seen, letter-new, names-more}
-use Rattle.syntax.proofs.passes.counted.Statement.{statement}
-use Rattle.syntax.proofs.passes.counted.Tie as tie
+use Rattle.syntax.proofs.count.counted.Statement.{statement}
+use Rattle.syntax.proofs.count.counted.Tie as tie
 
 sub-letter : tie.Need-sub-letter
 sub-letter c = letter-number _ (sym (c .before .is-letter .ensures) ∙ c .if1 .taken)

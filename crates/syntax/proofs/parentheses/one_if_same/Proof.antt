@@ -1,8 +1,8 @@
 -- By the test.
 use borrow.Author.Tests.{eq-eqb, ne-eqb}
 use native.Mathlib.Omega.{arith}
-use Rattle.syntax.proofs.passes.one_if_same.Statement.{statement}
-use Rattle.syntax.proofs.passes.one_if_same.Tie as tie
+use Rattle.syntax.proofs.parentheses.one_if_same.Statement.{statement}
+use Rattle.syntax.proofs.parentheses.one_if_same.Tie as tie
 
 returns : tie.Need-returns
 returns c = (rw (eq-eqb _ _ (c .if1 .taken)), omega arith)

@@ -7,8 +7,8 @@ use lib.ListN.{length}
 use Rattle.syntax.proofs.Size.{CountedTo}
 use borrow.Author.Needs.{needs}
 use native.Mathlib.Omega.{arith}
-use Rattle.syntax.proofs.passes.size.Statement.{statement}
-use Rattle.syntax.proofs.passes.size.Tie as tie
+use Rattle.syntax.proofs.count.size.Statement.{statement}
+use Rattle.syntax.proofs.count.size.Tie as tie
 
 abbrev Inv-loop : tie.InvT-loop
 Inv-loop s c₀ i₀ c i = CountedTo s c i
