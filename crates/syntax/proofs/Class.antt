@@ -169,13 +169,13 @@ module _ (s : List ℕ) (i : ℕ) where
   unfolding tokens
   rest-end h = rw (drop-of-length-le s h)
 
-  pub rest-blank : i < length s → codeOf (classOf (getD s i 0)) ≡ 6 → rest s i ≡ rest s (i + 1)
+  pub rest-blank : i < length s → getD s i 0 ≡ 32 → rest s i ≡ rest s (i + 1)
   unfolding tokens
-  rest-blank h e = rw (add-one, drop-cons s i 0, eq-eqb (getD s i 0) 32 (blank-byte (getD s i 0) e))
+  rest-blank h e = rw (add-one, drop-cons s i 0, eq-eqb (getD s i 0) 32 e)
 
-  pub rest-token : i < length s → (codeOf (classOf (getD s i 0)) ≡ 6 → ⊥) → rest s i ≡ classOf (getD s i 0) ∷ rest s (i + 1)
-  unfolding tokens classOf codeOf
-  rest-token h n = rw (add-one, drop-cons s i 0, ne-eqb (getD s i 0) 32 (λ e. n (ap (λ (b : ℕ). codeOf (classOf b)) e)))
+  pub rest-token : i < length s → (getD s i 0 ≡ 32 → ⊥) → rest s i ≡ classOf (getD s i 0) ∷ rest s (i + 1)
+  unfolding tokens
+  rest-token h n = rw (add-one, drop-cons s i 0, ne-eqb (getD s i 0) 32 n)
 
 pub tokens-append : (u v : List ℕ) → tokens (u ++ v) ≡ tokens u ++ tokens v
 unfolding tokens

@@ -3,6 +3,7 @@ pub mod Entries
 pub mod Class
 pub mod Position
 pub mod Depth
+pub mod Levels
 pub mod Fault
 pub mod Size
 pub mod Held

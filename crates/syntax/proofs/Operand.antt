@@ -15,7 +15,7 @@ use Rattle.syntax.specs.Grammar.{by-not, inside, no-and, by-and, no-or, 
 use Rattle.syntax.specs.Nodes.{Connective, And, Or, Implies, Entry, falsum, Named, withLeaf, withCompound, withEquivalence, withTree}
 use Rattle.syntax.specs.Scan.{State, wanted, had, move, ends}
 use Rattle.syntax.specs.Parts.{held, Holds, withNegation}
-use Rattle.syntax.specs.Descent.{rest, leafOf, NextToken, Wanted, Operand, NotNext, Stops}
+use Rattle.syntax.specs.Descent.{rest, leafOf, PastSpaces, NextToken, Wanted, Operand, NotNext, Stops}
 use Rattle.syntax.specs.declared.Parts.{Parts}
 use Rattle.syntax.specs.declared.bytes.Token.{Token}
 use Rattle.syntax.specs.declared.table.Parsed.{Parsed}
@@ -202,11 +202,11 @@ module _ (s : List ℕ) (at : ℕ) (p : Parts) where
         negation-more : (T : List Entry) (a : ℕ) → length T ≤ length (withNegation T a .table)
         negation-more T a = let n = withLeaf T falsum in omega (arith, leaf-grows T falsum, compound-grows (n .table) Implies a (n .root))
 
-    pub parenthesized : (r : Parsed) (c : Token) → Wanted s at → t .class ≡ 8 → Operand equivalence s (t .next) p r
-        → Stops equivalence (rest s (r .next)) → NextToken s (r .next) c
-        → Operand negation s at p (record { next = c .next; root = r .root; parts = r .parts })
+    pub parenthesized : (r : Parsed) (c : Token) (n : ℕ) → Wanted s at → t .class ≡ 8 → Operand equivalence s (t .next) p r
+        → Stops equivalence (rest s (r .next)) → NextToken s (r .next) c → PastSpaces s (c .next) n
+        → Operand negation s at p (record { next = n; root = r .root; parts = r .parts })
     unfolding wanted-inside
-    parenthesized r c w e x st q =
+    parenthesized r c n w e x st q g =
         let run = parse-runs (x .parsed) (w .equated ∷ w .outer) in
         let fits = past s (t .next) (wanted-inside s at t k w e) x (had (run .0) (w .equated ∷ w .outer)) (run .1) in
         let closes = ends-or-closes (rest s (r .next)) (run .0) (w .equated ∷ w .outer) fits (blank-free s (r .next)) st in
@@ -219,37 +219,37 @@ module _ (s : List ℕ) (at : ℕ) (p : Parts) where
               head-is s at t k 8 e (omega arith)
               ∙ ap (λ (y : List Class). opening ∷ y) (
               x .split
-              ∙ ap (λ (y : List Class). x .text ++ y) (head-is s (r .next) c q 1 ec (omega arith))
-              ∙ sym (append-assoc (x .text) (closing ∷ []) (rest s (c .next)))
+              ∙ ap (λ (y : List Class). x .text ++ y) (head-is s (r .next) c q 1 ec (omega arith) ∙ ap (λ (y : List Class). closing ∷ y) (sym (g .same)))
+              ∙ sym (append-assoc (x .text) (closing ∷ []) (rest s n))
               );
-          forward = omega (arith, k .forward (omega arith), x .forward, q .forward (omega arith));
-          inside = q .inside;
+          forward = omega (arith, k .forward (omega arith), x .forward, q .forward (omega arith), g .forward);
+          inside = g .inside;
           holds = record { sound = x .holds .sound; table = x .holds .table; root = x .holds .root };
         }
 
-    leaf-operand : (c : Class) (x : Tree) → Parses negation (c ∷ []) x → rest s at ≡ c ∷ rest s (t .next) → 0 < t .class → (o : Parsed) → o .next ≡ t .next
-        → Holds (withTree (held p) x) o → Operand negation s at p o
-    leaf-operand c x r e z o m h = record {
-      text = c ∷ [];
-      tree = x;
-      parsed = r;
-      split = e ∙ ap (λ (i : ℕ). c ∷ rest s i) (sym m);
-      forward = omega (arith, k .forward z);
-      inside = omega (arith, k .inside);
-      holds = h;
-    }
+    module _ (o : Parsed) (n : ℕ) (g : PastSpaces s (t .next) n) (m : o .next ≡ n) where
+      leaf-operand : (c : Class) (x : Tree) → Parses negation (c ∷ []) x → rest s at ≡ c ∷ rest s (t .next) → 0 < t .class → Holds (withTree (held p) x) o → Operand negation s at p o
+      leaf-operand c x r e z h = record {
+        text = c ∷ [];
+        tree = x;
+        parsed = r;
+        split = e ∙ ap (λ (l : List Class). c ∷ l) (sym (g .same)) ∙ ap (λ (i : ℕ). c ∷ rest s i) (sym m);
+        forward = omega (arith, k .forward z, g .forward);
+        inside = omega (arith, g .inside);
+        holds = h;
+      }
 
-    falsum-read : (o : Parsed) → t .class ≡ 9 → o .next ≡ t .next → Holds (withLeaf (held p) falsum) o → Operand negation s at p o
-    unfolding withTree
-    falsum-read o e m h = leaf-operand nought grammar.falsum a-falsum (head-is s at t k 9 e (omega arith)) (omega arith) o m h
+      falsum-read : t .class ≡ 9 → Holds (withLeaf (held p) falsum) o → Operand negation s at p o
+      unfolding withTree
+      falsum-read e h = leaf-operand nought grammar.falsum a-falsum (head-is s at t k 9 e (omega arith)) (omega arith) h
 
-    letter-read : (o : Parsed) → 10 ≤ t .class → o .next ≡ t .next → Holds (withLeaf (held p) (Entry.letter (t .class - 10))) o → Operand negation s at p o
-    unfolding withTree
-    letter-read o e m h = leaf-operand (lowercase (t .class - 10)) (grammar.letter (t .class - 10)) a-letter (head-letter s at t k e) (omega arith) o m h
+      letter-read : 10 ≤ t .class → Holds (withLeaf (held p) (Entry.letter (t .class - 10))) o → Operand negation s at p o
+      unfolding withTree
+      letter-read e h = leaf-operand (lowercase (t .class - 10)) (grammar.letter (t .class - 10)) a-letter (head-letter s at t k e) (omega arith) h
 
-    -- ⊥ or a letter.
-    pub leaf-read : (o : Parsed) → 9 ≤ t .class → o .next ≡ t .next → Holds (withLeaf (held p) (leafOf (t .class))) o → Operand negation s at p o
-    leaf-read o l m h = elim (decLe (t .class) 9) [
-      | yes few ↦ falsum-read o (omega arith) m (subst (λ (x : Entry). Holds (withLeaf (held p) x) o) (rw (eq-eqb (t .class) 9 (omega arith))) h)
-      | no many ↦ letter-read o (omega arith) m (subst (λ (x : Entry). Holds (withLeaf (held p) x) o) (rw (ne-eqb (t .class) 9 (λ i. omega arith))) h)
-    ]
+      -- ⊥ or a letter.
+      pub leaf-read : 9 ≤ t .class → Holds (withLeaf (held p) (leafOf (t .class))) o → Operand negation s at p o
+      leaf-read l h = elim (decLe (t .class) 9) [
+        | yes few ↦ falsum-read (omega arith) (subst (λ (x : Entry). Holds (withLeaf (held p) x) o) (rw (eq-eqb (t .class) 9 (omega arith))) h)
+        | no many ↦ letter-read (omega arith) (subst (λ (x : Entry). Holds (withLeaf (held p) x) o) (rw (ne-eqb (t .class) 9 (λ i. omega arith))) h)
+      ]

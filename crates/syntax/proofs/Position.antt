@@ -6,20 +6,20 @@ use native.Mathlib.Omega.{arith}
 use lib.ListN.{length, getD}
 use Rattle.syntax.specs.Class.{Class, lowercase, classOf}
 use Rattle.syntax.specs.Code.{codeOf, decode}
-use Rattle.syntax.specs.Descent.{rest, headCode, tail, NextToken}
+use Rattle.syntax.specs.Descent.{rest, headCode, tail, PastSpaces, NextToken}
 use Rattle.syntax.specs.declared.bytes.Token.{Token}
 use Rattle.syntax.proofs.Class.{class-is, letter-is, rest-end, rest-token}
 
-module _ (s : List ℕ) (at i : ℕ) (h : at ≤ i) (e : rest s i ≡ rest s at) where
-  pub token-found : (class : ℕ) → i < length s → class ≡ codeOf (classOf (getD s i 0)) → (class ≡ 6 → ⊥) → NextToken s at (record { class = class; next = i + 1 })
-  token-found class w k n =
-      let r : rest s at ≡ classOf (getD s i 0) ∷ rest s (i + 1) = sym e ∙ rest-token s i w (λ z. n (k ∙ z)) in
-      record { class-is = k ∙ sym (ap headCode r); left = sym (ap tail r); forward = λ z. omega arith; inside = omega arith }
+module _ (s : List ℕ) (at i : ℕ) (k : PastSpaces s at i) where
+  pub token-found : (class : ℕ) → i < length s → class ≡ codeOf (classOf (getD s i 0)) → NextToken s at (record { class = class; next = i + 1 })
+  token-found class w e =
+      let r : rest s at ≡ classOf (getD s i 0) ∷ rest s (i + 1) = sym (k .same) ∙ rest-token s i w (k .no-space w) in
+      record { class-is = e ∙ sym (ap headCode r); left = sym (ap tail r); forward = λ z. omega (arith, k .forward); inside = omega arith }
 
-  pub token-none : i ≤ length s → length s ≤ i → NextToken s at (record { class = 0; next = i })
-  token-none v w =
-      let r : rest s at ≡ [] = sym e ∙ rest-end s i w in
-      record { class-is = sym (ap headCode r); left = rest-end s i w ∙ sym (ap tail r); forward = λ z. absurd (omega arith); inside = v }
+  pub token-none : length s ≤ i → NextToken s at (record { class = 0; next = i })
+  token-none w =
+      let r : rest s at ≡ [] = sym (k .same) ∙ rest-end s i w in
+      record { class-is = sym (ap headCode r); left = rest-end s i w ∙ sym (ap tail r); forward = λ z. absurd (omega arith); inside = k .inside }
 
 -- A list by its first class's number.
 head-code : (l : List Class) (n : ℕ) → n ≡ headCode l → 0 < n → l ≡ decode n ∷ tail l

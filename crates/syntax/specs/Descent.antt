@@ -4,7 +4,7 @@ use mathlib.Core.List.{List, [], _∷_, _++_}
 use mathlib.Core.Path.{_≡_}
 use Prim.Native.Nat.{ℕ, _-_, _≤_, _<_}
 use lib.Dec.{eqb}
-use lib.ListN.{length, drop}
+use lib.ListN.{length, getD, drop}
 use Rattle.syntax.specs.Class.{Class, ampersand, bar, greater, equals, tokens, after}
 use Rattle.syntax.specs.Code.{codeOf}
 use Rattle.syntax.specs.Grammar.{Tree, Level, negation, conjunction, disjunction, implication, equivalence, Parses}
@@ -30,6 +30,13 @@ tail (c ∷ l) = l
 -- The leaf that a token of this class is: ⊥, or a letter.
 abbrev pub leafOf : ℕ → Entry
 leafOf class = cond (eqb class 9) falsum (letter (class - 10))
+
+-- A position past the spaces from another on.
+pub record PastSpaces (s : List ℕ) (at r : ℕ) : Type 0 where
+  pub same : rest s r ≡ rest s at
+  pub forward : at ≤ r
+  pub inside : r ≤ length s
+  pub no-space : r < length s → getD s r 0 ≡ 32 → ⊥
 
 -- The first token from a position on, and the position after it.
 pub record NextToken (s : List ℕ) (at : ℕ) (t : Token) : Type 0 where

@@ -5,7 +5,7 @@ ghost use Prim.Native.Nat.{_≤_};
 ghost use lib.ListN.{length};
 ghost use Rattle.syntax.specs.Class.{classOf};
 ghost use Rattle.syntax.specs.Code.{codeOf, decode, joins, isLetter, isLeaf};
-ghost use Rattle.syntax.specs.Descent.{NextToken};
+ghost use Rattle.syntax.specs.Descent.{PastSpaces, NextToken};
 
 pub const FOREIGN: u8 = 0;
 
@@ -63,23 +63,37 @@ pub fn is_leaf(class: u8) -> bool
     }
 }
 
+// The first position from `at` on that is no space. Every caller's position is in the text.
+pub fn past_spaces(s: &[u8], at: usize) -> usize
+    requires { ⌜ at ≤ length (now s) ⌝ }
+    ensures { λ r. ⌜ PastSpaces (now (s .entry)) at r ⌝ }
+{
+    let mut i = at;
+    while i < s.len() {
+        if s[i] != b' ' {
+            return i;
+        }
+        i += 1;
+    }
+    i
+}
+
 pub struct Token {
     pub class: u8,
     pub next: usize,
 }
 
-// The first token from a position on, spaces passed over; past the last, a foreign one. Every caller's position is in the text.
+// The first token from a position on; past the last, a foreign one.
 pub fn next_token(s: &[u8], at: usize) -> Token
     requires { ⌜ at ≤ length (now s) ⌝ }
     ensures { λ r. ⌜ NextToken (now (s .entry)) at r ⌝ }
 {
-    let mut i = at;
-    while i < s.len() {
-        let class = class_of(s[i]);
-        if class != BLANK {
-            return Token { class, next: i + 1 };
-        }
-        i += 1;
+    let i = past_spaces(s, at);
+    if i < s.len() {
+        return Token {
+            class: class_of(s[i]),
+            next: i + 1,
+        };
     }
     Token {
         class: FOREIGN,

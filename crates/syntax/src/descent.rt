@@ -1,12 +1,12 @@
 // The reader functions, one for each level of the grammar: they call one another through parentheses, and the bytes left fall.
 // The passes have judged the text, so an operand stands wherever one is wanted, and few parentheses are open and few connectives
-// follow: the depth of the calls is bounded. `leaf` stands apart to keep the frames of the recursion small.
+// follow: the depth of the calls is bounded. `leaf` stands apart to keep the frames of the recursion small. Spaces behind an operand are
+// passed over where it ends, once and not at each level.
 use super::Connective;
 use super::Part;
 use super::Parts;
 use super::bytes;
 use super::table;
-use bytes::Token;
 use table::Parsed;
 ghost use mathlib.Core.Path.{_≡_};
 ghost use Prim.Native.Nat.{_≤_};
@@ -16,15 +16,15 @@ ghost use Rattle.syntax.specs.Descent.{leafOf, Asks, Gives};
 ghost use Rattle.syntax.specs.Grammar.{Level};
 
 // ⊥ or a letter, by its class.
-fn leaf(parts: Parts, t: Token) -> Parsed
-    requires { ⌜ (9 ≤ t .class) × Sound parts ⌝ }
-    ensures { λ r. ⌜ (r .next ≡ t .next) × Holds (withLeaf (held parts) (leafOf (t .class))) r ⌝ }
+fn leaf(parts: Parts, class: u8, next: usize) -> Parsed
+    requires { ⌜ (9 ≤ class) × Sound parts ⌝ }
+    ensures { λ r. ⌜ (r .next ≡ next) × Holds (withLeaf (held parts) (leafOf class)) r ⌝ }
 {
-    if t.class == bytes::FALSUM {
-        return table::leaf(parts, Part::Falsum, t.next);
+    if class == bytes::FALSUM {
+        return table::leaf(parts, Part::Falsum, next);
     }
-    let letter = t.class - bytes::LETTER;
-    table::leaf(parts, Part::Letter(letter), t.next)
+    let letter = class - bytes::LETTER;
+    table::leaf(parts, Part::Letter(letter), next)
 }
 
 pub fn equivalence(s: &[u8], at: usize, parts: Parts) -> Parsed
@@ -94,8 +94,8 @@ fn negation(s: &[u8], at: usize, parts: Parts) -> Parsed
     if t.class == bytes::OPENING {
         let mut inner = equivalence(s, t.next, parts);
         let close = bytes::next_token(s, inner.next);
-        inner.next = close.next;
+        inner.next = bytes::past_spaces(s, close.next);
         return inner;
     }
-    leaf(parts, t)
+    leaf(parts, t.class, bytes::past_spaces(s, t.next))
 }

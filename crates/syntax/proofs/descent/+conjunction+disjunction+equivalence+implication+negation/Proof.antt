@@ -28,6 +28,7 @@ use Rattle.syntax.proofs.descent.implication.Reads as implication
 use Rattle.syntax.proofs.descent.+conjunction+disjunction+equivalence+implication+negation.Lts-implication as implication-lts
 use Rattle.syntax.proofs.descent.negation.Reads as negation
 use Rattle.syntax.proofs.descent.+conjunction+disjunction+equivalence+implication+negation.Lts-negation as negation-lts
+use Rattle.syntax.proofs.bytes.past_spaces.Reads as past-spaces-reads
 use Rattle.syntax.proofs.bytes.next_token.Reads as next-token-reads
 use Rattle.syntax.proofs.table.compound.Reads as compound-reads
 use Rattle.syntax.proofs.table.equivalence.Reads as equivalence-reads
@@ -80,6 +81,8 @@ negation-claims t = (
   negation-reads.Learnt,
   below 5 equivalence.Pre t,
   equivalence.Post,
+  past-spaces-reads.Asked,
+  past-spaces-reads.Learnt,
   leaf-reads.Asked,
   leaf-reads.Learnt,
 )
@@ -288,31 +291,38 @@ negation-equivalence-requires t c κs =
 negation-next-token-requires-2 : (t : ℕ) → negation-lts.Need-next-token-requires-2 (negation-claims t) (at-measure 1 negation.Pre t) negation.Post
 negation-next-token-requires-2 t c κs = c .equivalence .ensures .operand .inside
 
+negation-past-spaces-requires : (t : ℕ) → negation-lts.Need-past-spaces-requires (negation-claims t) (at-measure 1 negation.Pre t) negation.Post
+negation-past-spaces-requires t c κs = c .next-token2 .ensures .inside
+
 negation-returns-2 : (t : ℕ) → negation-lts.Need-returns-2 (negation-claims t) (at-measure 1 negation.Pre t) negation.Post
 negation-returns-2 t c =
-    let y = c .before .equivalence .ensures in
-    let test = c .before .before in
+    let y = c .before .before .equivalence .ensures in
+    let test = c .before .before .before in
     let token = test .before .before .before .before in
     record {
-      operand = parenthesized _ _ _ _ (token .next-token .ensures) _ _ (token .before .before .pre .1 .wanted) (test .if2 .taken)
-          (y .operand) (y .stops) (c .next-token2 .ensures);
+      operand = parenthesized _ _ _ _ (token .next-token .ensures) _ _ _ (token .before .before .pre .1 .wanted) (test .if2 .taken)
+          (y .operand) (y .stops) (c .before .next-token2 .ensures) (c .past-spaces .ensures);
       stops = tt;
     }
 
+negation-past-spaces-requires-2 : (t : ℕ) → negation-lts.Need-past-spaces-requires-2 (negation-claims t) (at-measure 1 negation.Pre t) negation.Post
+negation-past-spaces-requires-2 t c κs = c .before .before .before .before .next-token .ensures .inside
+
 negation-leaf-requires : (t : ℕ) → negation-lts.Need-leaf-requires (negation-claims t) (at-measure 1 negation.Pre t) negation.Post
 negation-leaf-requires t c κs =
-    let token = c .before .before .before .before in
+    let test = c .before in
+    let token = test .before .before .before .before in
     let asked = token .before .before .pre in
     let class = operand-class _ _ _ (token .next-token .ensures) (asked .1 .wanted) in
-    (omega (arith, class, c .if2 .left), asked .1 .sound)
+    (omega (arith, class, test .if2 .left), asked .1 .sound)
 
 negation-returns-3 : (t : ℕ) → negation-lts.Need-returns-3 (negation-claims t) (at-measure 1 negation.Pre t) negation.Post
 negation-returns-3 t c =
-    let test = c .before in
+    let test = c .before .before in
     let token = test .before .before .before .before in
     let k = token .next-token .ensures in
     let class = operand-class _ _ _ k (token .before .before .pre .1 .wanted) in
-    record { operand = leaf-read _ _ _ _ k _ (omega (arith, class, test .if2 .left)) (c .leaf .ensures .0) (c .leaf .ensures .1); stops = tt }
+    record { operand = leaf-read _ _ _ _ k _ _ (c .before .past-spaces2 .ensures) (c .leaf .ensures .0) (omega (arith, class, test .if2 .left)) (c .leaf .ensures .1); stops = tt }
 
 pub +conjunction+disjunction+equivalence+implication+negation-spec : {M : Type 1} → statement M
 +conjunction+disjunction+equivalence+implication+negation-spec =
@@ -369,6 +379,8 @@ pub +conjunction+disjunction+equivalence+implication+negation-spec : {M : Type 1
     (negation-returns t)
     (negation-equivalence-requires t)
     (negation-next-token-requires-2 t)
+    (negation-past-spaces-requires t)
     (negation-returns-2 t)
+    (negation-past-spaces-requires-2 t)
     (negation-leaf-requires t)
     (negation-returns-3 t)

@@ -9,10 +9,10 @@ returns : tie.Need-returns
 returns c = rw (eq-eqb _ 9 (c .before .if1 .taken)) (c .leaf .ensures)
 
 sub-letter : tie.Need-sub-letter
-sub-letter c = omega (arith, c .before .before .before .pre .0)
+sub-letter c = omega (arith, c .before .pre .0)
 
 returns-2 : tie.Need-returns-2
-returns-2 c = rw (ne-eqb _ 9 (c .before .before .if1 .left)) (c .leaf2 .ensures)
+returns-2 c = rw (ne-eqb _ 9 (c .before .if1 .left)) (c .leaf2 .ensures)
 
 pub leaf-spec : {M : Type 1} → statement M
 leaf-spec = tie.close (tie.spec (λ c κs. search needs) returns sub-letter (λ c κs. search needs) returns-2)

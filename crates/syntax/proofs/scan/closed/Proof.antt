@@ -1,6 +1,6 @@
 -- By the test.
 use borrow.Author.Needs.{needs}
-use Rattle.syntax.proofs.Fault.{closed-none, closed-level}
+use Rattle.syntax.proofs.Levels.{closed-none, closed-level}
 use Rattle.syntax.proofs.scan.closed.Statement.{statement}
 use Rattle.syntax.proofs.scan.closed.Tie as tie
 

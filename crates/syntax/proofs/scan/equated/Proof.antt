@@ -1,5 +1,5 @@
 -- By the test.
-use Rattle.syntax.proofs.Fault.{equated-again, equated-first}
+use Rattle.syntax.proofs.Levels.{equated-again, equated-first}
 use Rattle.syntax.proofs.scan.equated.Statement.{statement}
 use Rattle.syntax.proofs.scan.equated.Tie as tie
 

@@ -3,7 +3,7 @@ use mathlib.Core.Logic.{⊎-elim}
 use mathlib.Core.Path.{_∙_, ap}
 use borrow.Author.Needs.{needs}
 use Rattle.atoms.specs.Words.{num}
-use Rattle.syntax.proofs.Fault.{opened-with, opened-without}
+use Rattle.syntax.proofs.Levels.{opened-with, opened-without}
 use Rattle.syntax.proofs.scan.opened.Statement.{statement}
 use Rattle.syntax.proofs.scan.opened.Tie as tie
 
