@@ -42,9 +42,9 @@ pub fn nested(random: &mut Random) -> Vec<u8> {
     }
     input.push(b'q');
     for _ in 0..depth {
-        input.push(b')');
-        if random.one_in(often) {
-            input.extend([operator(random), b'r']);
+        match random.one_in(often) {
+            true => input.extend([b')', operator(random), b'r']),
+            false => input.push(b')'),
         }
     }
     input

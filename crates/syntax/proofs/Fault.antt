@@ -14,7 +14,7 @@ use Rattle.atoms.specs.declared.AtomSet.{AtomSet}
 use Rattle.syntax.specs.Class.{Class, blank, classOf, after}
 use Rattle.syntax.specs.Code.{codeOf, decode, joins, isLeaf}
 use Rattle.syntax.specs.Refusal.{count, mostOpen, TooDeep}
-use Rattle.syntax.specs.Scan.{State, misfit, wanted, had, start, move, ends, unlessMisfit, fitting, levelsIn, stateOf, HasRoom, scanned}
+use Rattle.syntax.specs.Scan.{State, misfit, wanted, had, start, move, ends, unlessMisfit, fitting, levelsIn, stateOf, MayOpen, scanned}
 use Rattle.syntax.specs.declared.scan.Levels.{Levels}
 use Rattle.syntax.proofs.Class.{by-number, class-is, opening-byte, after-byte, after-end}
 use Rattle.syntax.proofs.Depth.{counts}
@@ -99,7 +99,7 @@ module _ (s : List ℕ) where
       turned x e = ap (move (stateOf w l)) (class-is (classOf (getD s i 0)) n k) ∙ sym e
 
       -- The text has no beginning that is too deep.
-      pub scan-room : (TooDeep s → ⊥) → HasRoom l n
+      pub scan-room : (TooDeep s → ⊥) → MayOpen l n
       unfolding codeOf
       scan-room few e = elim (decLt (l .depth) mostOpen) [
         | yes less ↦ less

@@ -19,3 +19,4 @@ pub mod Letters
 pub mod Judgement
 pub mod Reader
 pub mod Judge
+pub mod Sentences

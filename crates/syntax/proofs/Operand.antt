@@ -15,7 +15,7 @@ use Rattle.syntax.specs.Grammar.{by-not, inside, no-and, by-and, no-or, 
 use Rattle.syntax.specs.Nodes.{Connective, And, Or, Implies, Entry, falsum, Named, withLeaf, withCompound, withEquivalence, withTree}
 use Rattle.syntax.specs.Scan.{State, wanted, had, move, ends}
 use Rattle.syntax.specs.Parts.{held, Holds, withNegation}
-use Rattle.syntax.specs.Descent.{rest, leafOf, PastSpaces, NextToken, Wanted, Operand, NotNext, Stops}
+use Rattle.syntax.specs.Descent.{rest, leafOf, PastSpaces, NextToken, Wanted, Operand, NotNext, Stops, Asks}
 use Rattle.syntax.specs.declared.Parts.{Parts}
 use Rattle.syntax.specs.declared.bytes.Token.{Token}
 use Rattle.syntax.specs.declared.table.Parsed.{Parsed}
@@ -78,8 +78,11 @@ module _ (s : List ℕ) (at : ℕ) where
     past-token = ap (λ (l : List Class). ends (after move (had (w .equated) (w .outer)) l)) (sym (head-is s (r .next) t next n e z)) ∙ past w o _ run
 
     -- An operator wants another operand.
-    pub wanted-after : move (had (w .equated) (w .outer)) (decode n) ≡ wanted (w .equated) (w .outer) → Wanted s (t .next)
-    wanted-after op = record { equated = w .equated; outer = w .outer; fits = ap (λ (x : State). ends (after move x (rest s (t .next)))) (sym op) ∙ past-token; inside = next .inside }
+    pub asks-after : move (had (w .equated) (w .outer)) (decode n) ≡ wanted (w .equated) (w .outer) → Asks s (t .next) (r .parts)
+    asks-after op = record {
+      wanted = record { equated = w .equated; outer = w .outer; fits = ap (λ (x : State). ends (after move x (rest s (t .next)))) (sym op) ∙ past-token; inside = next .inside };
+      sound = o .holds .sound;
+    }
 
   -- An `=` wants one, and no other has stood.
   pub wanted-equal : {p : Parts} {r : Parsed} (w : Wanted s at) (o : Operand implication s at p r) (t : Token) → NextToken s (r .next) t → t .class ≡ 5

@@ -19,7 +19,8 @@ opened (or p q) = Formula.or (opened p) (opened q)
 opened (implies p q) = Formula.implies (opened p) (opened q)
 opened (equal p q) = iff (opened p) (opened q)
 
--- "Binding, tightest first: `~`; `&`; `|` (both group to the left); then `>`", which groups to the right; change 2: "`=` binds weaker than `>`".
+-- "Binding, tightest first: `~`; `&`; `|` (both group to the left); then `>`". Change 2: "`=` binds weaker than `>`", "implication still
+-- groups to the right".
 pub data Level : Type 0 where
   negation conjunction disjunction implication equivalence : Level
 

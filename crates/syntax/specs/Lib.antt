@@ -1,6 +1,6 @@
 -- Definitions of the reader of formula text, in the order in which they build on each other. Class, Grammar, Nodes, Refusal, Parts and
--- Answer are what a reader must believe; Reading and Judge are proved to agree with them; in Code, Scan, Size and Descent the code's
--- parts speak to each other.
+-- Answer are what a reader must believe; Reading and Judge are proved to agree with them, and Sentences has what they say of given texts;
+-- in Code, Scan, Size and Descent the code's parts speak to each other.
 pub mod Class
 pub mod Grammar
 pub mod Reading
@@ -12,4 +12,5 @@ pub mod Size
 pub mod Parts
 pub mod Descent
 pub mod Judge
+pub mod Sentences
 pub mod Answer

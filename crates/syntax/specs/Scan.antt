@@ -90,8 +90,8 @@ turnState Misfit = misfit
 turnState (Fits w l) = stateOf w l
 
 -- One parenthesis more may open.
-abbrev pub HasRoom : Levels → ℕ → Type 0
-HasRoom l class = class ≡ codeOf opening → l .depth < mostOpen
+abbrev pub MayOpen : Levels → ℕ → Type 0
+MayOpen l class = class ≡ codeOf opening → l .depth < mostOpen
 
 -- The scan of a whole text ends with no operand wanted and nothing open; or the first that does not fit.
 abbrev pub scanned : List ℕ → State

@@ -7,7 +7,7 @@ ghost use Prim.Native.Nat.{_<_};
 ghost use Rattle.syntax.specs.Class.{closing, equals, opening};
 ghost use Rattle.syntax.specs.Code.{decode};
 ghost use Rattle.syntax.specs.Refusal.{mostOpen, TooDeep};
-ghost use Rattle.syntax.specs.Scan.{Scanned, HasRoom, move, stateOf, turnState};
+ghost use Rattle.syntax.specs.Scan.{Scanned, MayOpen, move, stateOf, turnState};
 
 // Each open parenthesis has a level, and so has the text outside them. Whether an `=` has stood at the innermost; how many
 // parentheses are open; and the levels around it, from 0 outside, at which one has stood.
@@ -72,7 +72,7 @@ fn equated(l: Levels) -> Turn
 
 // A space changes nothing.
 fn step(operand: bool, levels: Levels, class: u8) -> Turn
-    requires { ⌜ HasRoom levels class ⌝ }
+    requires { ⌜ MayOpen levels class ⌝ }
     ensures { λ r. ⌜ turnState r ≡ move (stateOf operand levels) (decode class) ⌝ }
 {
     if class == bytes::BLANK {
