@@ -31,8 +31,8 @@ pub fn damaged(random: &mut Random) -> Vec<u8> {
 /// Parentheses within parentheses, where an `=` stands before, within or after some of them.
 pub fn nested(random: &mut Random) -> Vec<u8> {
     let depth = random.below(70);
-    let often = 1 + random.below(40);
-    let operator = |random: &mut Random| if random.one_in(often) { b'=' } else { *random.pick(b"&|>") };
+    let often = 2 + random.below(12);
+    let operator = |random: &mut Random| *random.pick(b"===&|>");
     let mut input = Vec::new();
     for _ in 0..depth {
         if random.one_in(often) {

@@ -1,4 +1,4 @@
--- Formulas joined without parentheses are formulas, at whatever levels they stand.
+-- What `&`, `|` or `>` joins without parentheses is a formula, where at most the right part has an `=` at its own level.
 use mathlib.Core.Bool.{Bool, true, false}
 use mathlib.Core.List.{List, _∷_, _++_, append-assoc}
 use mathlib.Core.Path.{sym, subst}
@@ -49,15 +49,15 @@ or-or {u} r (by-or {u = a} {v = b} q s) = let x = or-or r q in to-left u a b bar
 
 -- What joins disjunctions joins implications: first with a disjunction to the left, then with any.
 module _ (c : Class) (J : (u v : List Class) (p q : Tree) → Parses disjunction u p → Parses disjunction v q → Some disjunction (u ++ (c ∷ v))) where
-  below-left : {u v : List Class} {p q : Tree} → Parses disjunction u p → Parses implication v q → Some implication (u ++ (c ∷ v))
-  below-left {u} {v} {p} {q} r (no-implies s) = let x = J u v p q r s in (_, no-implies (x .1))
-  below-left {u} {p = p} r (by-implies {u = a} {v = b} {p = y} s z) = let x = J u a p y r s in to-left u a b c greater (_, by-implies (x .1) z)
+  disjunction-left : {u v : List Class} {p q : Tree} → Parses disjunction u p → Parses implication v q → Some implication (u ++ (c ∷ v))
+  disjunction-left {u} {v} {p} {q} r (no-implies s) = let x = J u v p q r s in (_, no-implies (x .1))
+  disjunction-left {u} {p = p} r (by-implies {u = a} {v = b} {p = y} s z) = let x = J u a p y r s in to-left u a b c greater (_, by-implies (x .1) z)
 
 -- The right part of an implication takes what follows.
 module _ (c : Class) (L : (u v : List Class) (p q : Tree) → Parses disjunction u p → Parses implication v q → Some implication (u ++ (c ∷ v))) where
-  weakest : {u v : List Class} {p q : Tree} → Parses implication u p → Parses implication v q → Some implication (u ++ (c ∷ v))
-  weakest {u} {v} {p} {q} (no-implies r) s = L u v p q r s
-  weakest {v = v} (by-implies {u = a} {v = b} r z) s = let x = weakest z s in to-right a b v greater c (_, by-implies r (x .1))
+  implication-left : {u v : List Class} {p q : Tree} → Parses implication u p → Parses implication v q → Some implication (u ++ (c ∷ v))
+  implication-left {u} {v} {p} {q} (no-implies r) s = L u v p q r s
+  implication-left {v = v} (by-implies {u = a} {v = b} r z) s = let x = implication-left z s in to-right a b v greater c (_, by-implies r (x .1))
 
 -- The operators that may stand again and again at one level.
 pub data Operator : Class → Type 0 where
@@ -66,9 +66,9 @@ pub data Operator : Class → Type 0 where
   is-implies : Operator greater
 
 join-implications : {u v : List Class} {c : Class} → Operator c → Some implication u → Some implication v → Some implication (u ++ (c ∷ v))
-join-implications is-and x y = weakest ampersand (λ u v p q. below-left ampersand (λ u v p q. and-or)) (x .1) (y .1)
-join-implications is-or x y = weakest bar (λ u v p q. below-left bar (λ u v p q. or-or)) (x .1) (y .1)
-join-implications is-implies x y = weakest greater (λ u v p q r s. (_, by-implies r s)) (x .1) (y .1)
+join-implications is-and x y = implication-left ampersand (λ u v p q. disjunction-left ampersand (λ u v p q. and-or)) (x .1) (y .1)
+join-implications is-or x y = implication-left bar (λ u v p q. disjunction-left bar (λ u v p q. or-or)) (x .1) (y .1)
+join-implications is-implies x y = implication-left greater (λ u v p q r s. (_, by-implies r s)) (x .1) (y .1)
 
 -- What may still be read at a level: after an `=` no other.
 abbrev pub levelOf : Bool → Level

@@ -95,23 +95,17 @@ module _ (s : List ℕ) (at : ℕ) where
       go false q = (record { equated = true; outer = w .outer; fits = rw q at (past-token w o (parse-runs (o .parsed) (w .equated) (w .outer)) t k 5 (omega arith) e); inside = k .inside }, refl)
 
   module _ (t : Token) (k : NextToken s at t) where
+    from-token : (w : Wanted s at) (n : ℕ) → 0 < n → t .class ≡ n → ends (after move (move (wanted (w .equated) (w .outer)) (decode n)) (rest s (t .next))) ≡ true
+    unfolding after
+    from-token w n z e = ap (λ (l : List Class). ends (after move (wanted (w .equated) (w .outer)) l)) (sym (head-is s at t k n e z)) ∙ w .fits
+
     pub wanted-not : Wanted s at → t .class ≡ 7 → Wanted s (t .next)
-    unfolding after move
-    wanted-not w e = record {
-      equated = w .equated;
-      outer = w .outer;
-      fits = ap (λ (l : List Class). ends (after move (wanted (w .equated) (w .outer)) l)) (sym (head-is s at t k 7 e (omega arith))) ∙ w .fits;
-      inside = k .inside;
-    }
+    unfolding move
+    wanted-not w e = record { equated = w .equated; outer = w .outer; fits = from-token w 7 (omega arith) e; inside = k .inside }
 
     pub wanted-inside : Wanted s at → t .class ≡ 8 → Wanted s (t .next)
-    unfolding after move
-    wanted-inside w e = record {
-      equated = false;
-      outer = w .equated ∷ w .outer;
-      fits = ap (λ (l : List Class). ends (after move (wanted (w .equated) (w .outer)) l)) (sym (head-is s at t k 8 e (omega arith))) ∙ w .fits;
-      inside = k .inside;
-    }
+    unfolding move
+    wanted-inside w e = record { equated = false; outer = w .equated ∷ w .outer; fits = from-token w 8 (omega arith) e; inside = k .inside }
 
     pub operand-class : Wanted s at → 7 ≤ t .class
     operand-class w = rw (k .class-is) (begins-operand (rest s at) (w .equated) (w .outer) (w .fits) blank-free)

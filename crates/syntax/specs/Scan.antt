@@ -89,7 +89,7 @@ abbrev pub turnState : Turn → State
 turnState Misfit = misfit
 turnState (Fits w l) = stateOf w l
 
--- One parenthesis more may open.
+-- Where the next token opens a parenthesis, there is a level for it.
 abbrev pub MayOpen : Levels → ℕ → Type 0
 MayOpen l class = class ≡ codeOf opening → l .depth < mostOpen
 

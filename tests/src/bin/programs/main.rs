@@ -24,7 +24,7 @@ struct Counts {
 }
 
 /// So much there is to compare on the fixed seed: a list that shrank or a loop that ended early shows here.
-const WANTED: Counts = Counts { settle: 1_994, check_sheet: 739, scripts: 335, lines: 115_702 };
+const WANTED: Counts = Counts { settle: 1_964, check_sheet: 739, scripts: 335, lines: 116_795 };
 
 fn main() {
     let start = Instant::now();
