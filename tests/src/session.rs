@@ -1,4 +1,5 @@
-//! The session of document 01: clauses held, questions answered by the fixed search, steps and the last verdict kept.
+//! The session of document 01, with the marks of document 02: clauses held, questions answered by the fixed search, steps and the
+//! last verdict kept.
 
 use crate::certificate;
 use crate::naming::{problem_of, Flat, Implication, Problem, FALSE, MOST_FLATS, MOST_IMPLICATIONS};
@@ -6,12 +7,24 @@ use crate::reader::read;
 use crate::refusal::Refusal;
 use crate::search::{settle_after, Answer, Step, Verdict};
 
+const MOST_MARK: u8 = 7;
+
 pub struct Session {
     /// The clauses held; the goal is that of the last verdict, at first that of the text.
     problem: Problem,
     steps: Vec<Step>,
     questions: u32,
     verdict: Option<Verdict>,
+    /// In the order in which they were last set.
+    marks: Vec<Mark>,
+}
+
+/// A mark, with all that was held when it was last set.
+struct Mark {
+    number: u8,
+    flats: Vec<Flat>,
+    implications: Vec<Implication>,
+    steps: Vec<Step>,
 }
 
 impl Session {
@@ -35,7 +48,7 @@ impl Session {
     }
 
     fn holding(problem: Problem) -> Session {
-        Session { problem, steps: Vec::new(), questions: 0, verdict: None }
+        Session { problem, steps: Vec::new(), questions: 0, verdict: None, marks: Vec::new() }
     }
 
     pub fn atoms(&self) -> u8 {
@@ -75,6 +88,27 @@ impl Session {
         self.steps = answer.steps;
         self.verdict = Some(answer.verdict);
         self.answer()
+    }
+
+    pub fn set_mark(&mut self, number: u8) -> Result<(), Refusal> {
+        refuse(17, number > MOST_MARK)?;
+        self.marks.retain(|mark| mark.number != number);
+        let Problem { flats, implications, .. } = self.problem.clone();
+        self.marks.push(Mark { number, flats, implications, steps: self.steps.clone() });
+        Ok(())
+    }
+
+    /// Holds again what was held when the mark was set. Those set after it are lost.
+    pub fn return_to(&mut self, number: u8) -> Result<(), Refusal> {
+        refuse(17, number > MOST_MARK)?;
+        let place = self.marks.iter().position(|mark| mark.number == number).ok_or(Refusal::plain(18))?;
+        self.marks.truncate(place + 1);
+        let mark = &self.marks[place];
+        self.problem.flats = mark.flats.clone();
+        self.problem.implications = mark.implications.clone();
+        self.steps = mark.steps.clone();
+        self.verdict = None;
+        Ok(())
     }
 
     /// The answer held, if a verdict is.
@@ -155,6 +189,34 @@ mod tests {
         assert_eq!(refusal(session.sheet()), 9);
         let again = session.ask(goal).expect("a verdict");
         assert_eq!((again.questions, again.steps.len()), (4, 1));
+    }
+
+    #[test]
+    fn marks_in_the_order_of_setting() {
+        let mut session = Session::open(2).expect("two atoms");
+        for mark in [0, 7, 3, 0] {
+            assert_eq!(refusal(session.set_mark(mark)), 0);
+        }
+        assert_eq!([8, 255].map(|mark| refusal(session.set_mark(mark))), [17, 17]);
+        assert_eq!([8, 1].map(|mark| refusal(session.return_to(mark))), [17, 18]);
+        assert_eq!(refusal(session.return_to(3)), 0);
+        assert_eq!([0, 3, 7, 3].map(|mark| refusal(session.return_to(mark))), [18, 0, 0, 18]);
+    }
+
+    #[test]
+    fn a_return_drops_clauses_steps_and_the_verdict() {
+        let (mut session, goal) = Session::of_text(b"p>p").expect("p>p");
+        session.set_mark(0).expect("a mark");
+        let first = session.ask(goal).expect("a verdict");
+        session.set_mark(1).expect("a mark");
+        assert!(session.sheet().is_ok());
+        session.add_flat(SAME).expect("a clause");
+        assert_eq!(refusal(session.return_to(1)), 0);
+        assert_eq!((session.problem.flats.len(), session.steps.len(), refusal(session.sheet())), (2, 1, 9));
+        assert_eq!(refusal(session.return_to(0)), 0);
+        assert_eq!((session.steps.len(), refusal(session.return_to(1))), (0, 18));
+        let again = session.ask(goal).expect("a verdict");
+        assert_eq!((again.questions, again.steps), (2 * first.questions, first.steps));
     }
 
     #[test]

@@ -8,7 +8,7 @@ use lib.Dec.{eqb}
 use lib.ListN.{length}
 use Rattle.ipl.specs.Clause.{Flat}
 use Rattle.ipl.specs.Search.{Outcome, valid, refuted, refused, unfinished}
-use Rattle.ipl.specs.Book.{Book, Call, addFlat, addImplication, question, opened, refusal, next, answer, numberOf}
+use Rattle.ipl.specs.Book.{Book, addFlat, addImplication, Call, add, question, setMark, returnTo, opened, additionRefusal, refusal, next, answer, numberOf}
 use Rattle.ipl.proofs.Book.{Reached, opened-reached, next-reached}
 use Rattle.prover.specs.State.{book}
 use Rattle.prover.specs.InRange.{inRange}
@@ -50,18 +50,20 @@ module _ (s : Session) (in-range : inRange s ≡ true) (reached : Reached (book 
       record { holds = kept .0; in-range = kept .1; reached = subst Reached (sym (kept .0)) (next-reached (book s) (callOf c) reached) }
 
   call-done : (c : Call) (r : Changed) → CallMet s c r → Done (book s) (calling c) r
-  unfolding refusal
-  call-done (addFlat f) r (left, right, e, m) =
+  unfolding refusal additionRefusal
+  call-done (add (addFlat f)) r (left, right, e, m) =
       let c : Made = made.addFlat left right in
-      subst (λ (f : Flat). Done (book s) (calling (addFlat f)) r) (sym e)
+      subst (λ (f : Flat). Done (book s) (calling (add (addFlat f))) r) (sym e)
       (follows (c ∷ []) s in-range reached (r, m, tt) .1, made-stands c r m)
-  call-done (addImplication i) r m =
+  call-done (add (addImplication i)) r m =
       let c : Made = made.addImplication (i .a) (i .b) (i .c) in
       (follows (c ∷ []) s in-range reached (r, m, tt) .1, made-stands c r m)
   call-done (question g) r (x, m, e, p) = (
     p ∙ verdict-number g x (answer (book s) g) (asked-as s in-range reached g x m .0),
     subst (Stands (next (book s) (question g))) (sym e) (made-stands (made.question g) x m),
   )
+  call-done (setMark j) r m = (follows (made.setMark j ∷ []) s in-range reached (r, m, tt) .1, made-stands (made.setMark j) r m)
+  call-done (returnTo j) r m = (follows (made.returnTo j ∷ []) s in-range reached (r, m, tt) .1, made-stands (made.returnTo j) r m)
 
   called-done : (x : Act) (r : Changed) → Called s x r → Done (book s) x r
   called-done (opening n) r o = (o .refused, opened-stands n r o)

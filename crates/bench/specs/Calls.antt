@@ -8,8 +8,8 @@ use lib.ListN.{length, getD}
 use Rattle.atoms.specs.Words.{rowOf}
 use Rattle.atoms.specs.declared.AtomSet.{AtomSet}
 use Rattle.ipl.specs.Clause.{Flat}
-use Rattle.ipl.specs.Book.{Book, Call, addFlat, addImplication, question, opened, openRefusal, refusal, next}
-use Rattle.prover.specs.Calls.{flatOf, Opened, FlatAdded, ImplicationAdded, Asked}
+use Rattle.ipl.specs.Book.{Book, addFlat, addImplication, Call, add, question, setMark, returnTo, opened, openRefusal, refusal, next}
+use Rattle.prover.specs.Calls.{flatOf, Opened, FlatAdded, ImplicationAdded, Asked, MarkSet, MarkReturned}
 use Rattle.prover.specs.declared.Session.{Session}
 use Rattle.prover.specs.declared.Changed.{Changed}
 use Rattle.prover.specs.declared.Answered.{Answered}
@@ -21,12 +21,13 @@ pub data Act : Type 0 where
   opening : ℕ → Act
   calling : Call → Act
 
--- Kind 0 opens, 1 adds a flat clause, 2 an implication; any other is a question.
+-- Kind 0 opens, 1 adds a flat clause, 2 an implication, 3 sets a mark, 4 returns to one; any other is a question.
 abbrev pub act : ℕ → ℕ → ℕ → ℕ → Flat → Act
 act kind a b c f =
     cond (eqb kind 0) (opening a)
-    (cond (eqb kind 1) (calling (addFlat f))
-    (cond (eqb kind 2) (calling (addImplication (record { a = a; b = b; c = c }))) (calling (question a))))
+    (cond (eqb kind 1) (calling (add (addFlat f)))
+    (cond (eqb kind 2) (calling (add (addImplication (record { a = a; b = b; c = c }))))
+    (cond (eqb kind 3) (calling (setMark a)) (cond (eqb kind 4) (calling (returnTo a)) (calling (question a))))))
 
 -- Act i of a list: four bytes and two rows of sets.
 abbrev pub actAt : List ℕ → List ℕ → ℕ → Act
@@ -68,9 +69,11 @@ abbrev pub QuestionPut : Session → ℕ → Changed → Type 0
 QuestionPut s g r = (x : Answered) × Asked s g x × (r .session ≡ x .session) × (r .refusal ≡ numberTold (x .verdict))
 
 abbrev pub CallMet : Session → Call → Changed → Type 0
-CallMet s (addFlat f) r = (left : AtomSet) × (right : AtomSet) × (f ≡ flatOf left right) × FlatAdded s left right r
-CallMet s (addImplication i) r = ImplicationAdded s (i .a) (i .b) (i .c) r
+CallMet s (add (addFlat f)) r = (left : AtomSet) × (right : AtomSet) × (f ≡ flatOf left right) × FlatAdded s left right r
+CallMet s (add (addImplication i)) r = ImplicationAdded s (i .a) (i .b) (i .c) r
 CallMet s (question g) r = QuestionPut s g r
+CallMet s (setMark j) r = MarkSet s j r
+CallMet s (returnTo j) r = MarkReturned s j r
 
 abbrev pub Called : Session → Act → Changed → Type 0
 Called s (opening n) r = Opened n r

@@ -10,7 +10,7 @@ use Rattle.ipl.specs.Lists.{all, All}
 use Rattle.ipl.specs.Range.{stepTable, worldTable, atomOrBot, setInRange}
 use Rattle.ipl.specs.Search.{Step, Outcome, valid, refuted, refused, unfinished, search, stepInRange}
 use Rattle.ipl.specs.Book.{Book, Call, opened, goalRefusal, answer, stepsAfter, after}
-use Rattle.ipl.specs.Demand.{WellFormed}
+use Rattle.ipl.specs.Demand.{RowsWellFormed}
 use Rattle.ipl.proofs.Lists.{All-all, All-map}
 use Rattle.ipl.proofs.Range.{implication-below}
 use Rattle.ipl.proofs.Steps.{right-steps-in-range}
@@ -33,7 +33,7 @@ abbrev ClaimMade : Book → ℕ → Option Claim → Type 0
 ClaimMade k g none = Unit {0}
 ClaimMade k g (some c) = Right (problemOfBook k g) c
 
-module _ (k : Book) (g : ℕ) (w : WellFormed k) (goal : T (atomOrBot (k .n) g)) where
+module _ (k : Book) (g : ℕ) (w : RowsWellFormed (k .n) (k .flats) (k .implications) (k .steps)) (goal : T (atomOrBot (k .n) g)) where
   ranged : (c : Claim) → T (claimInRange (k .n) (length (k .implications)) c) → T (inRange (problemOfBook k g) c)
   ranged c t = range-of (problemOfBook k g) c (record {
     some = w .some;
@@ -79,12 +79,12 @@ module _ (k : Book) (g : ℕ) (w : WellFormed k) (goal : T (atomOrBot (k .n) g))
 pub reached-right : (k : Book) → Reached k → (g : ℕ) (c : Claim) → claimOfVerdict k (answer k g) ≡ some c → Right (problemOfBook k g) c
 unfolding answer claimOfVerdict
 reached-right k r g c e =
-    let wf = r .well-formed in
+    let wf = r .rows .well-formed in
     let searched = search (k .n) (k .flats) (k .implications) g (k .steps) in
     subst (ClaimMade k g) e
     (by-cond (λ o. ClaimMade k g (claimOfVerdict k o)) (eqb (goalRefusal k g) 0) searched (refused (goalRefusal k g))
     (λ t. outcome-right k g wf (goal-unrefused k g (eqb→eq (goalRefusal k g) 0 (true-T t))) searched
-    (search-right (k .n) (k .flats) (k .implications) g (k .steps) (All-map (k .implications) (implication-below (k .n)) (wf .implications)) (wf .steps) (r .witnessed))
+    (search-right (k .n) (k .flats) (k .implications) g (k .steps) (All-map (k .implications) (implication-below (k .n)) (wf .implications)) (wf .steps) (r .rows .witnessed))
     (search-fits (k .n) (k .flats) (k .implications) g (k .steps) (wf .step-count)))
     (λ t. tt))
 

@@ -1,6 +1,6 @@
 -- Demand 2: "every sheet written from a session opened by us and changed only through its calls is accepted and reads back as the
 -- problem and answer it came from"; its length is told. What a call leaves to be written is right.
-use mathlib.Core.Bool.{Bool, true, cond}
+use mathlib.Core.Bool.{Bool, true, false, cond}
 use mathlib.Core.List.{List, [], _∷_, map}
 use mathlib.Core.Option.{Option, none, some, orElse}
 use mathlib.Core.Path.{_≡_, refl, sym, ap, ap₂, _∙_, subst}
@@ -12,18 +12,18 @@ use lib.ListN.{take}
 use borrow.Author.Tests.{eq-eqb, ne-eqb}
 use Rattle.ipl.specs.Search.{Outcome, valid, refuted, refused, unfinished}
 use Rattle.ipl.specs.Book as B
-use Rattle.ipl.specs.Book.{Book, Call, opened, answer, refusal, taken, stepsAfter}
+use Rattle.ipl.specs.Book.{Book, Call, opened, answer, additionRefusal, refusal, taken, stepsAfter}
 use Rattle.ipl.proofs.Book.{Reached, opened-reached, next-reached}
-use Rattle.prover.specs.State.{book}
+use Rattle.prover.specs.State.{worldsOf, book}
 use Rattle.prover.specs.InRange.{inRange}
-use Rattle.prover.specs.Calls.{number, NothingHeld, Added, AskedAs}
-use Rattle.prover.specs.Demand.{Made, addFlat, addImplication, question, callOf, Returned, sessionOf, Meets, Run}
+use Rattle.prover.specs.Calls.{number, NothingHeld, VerdictKept, Changes, AskedAs}
+use Rattle.prover.specs.Demand.{Made, addFlat, addImplication, question, setMark, returnTo, callOf, Returned, sessionOf, Meets, Run}
 use Rattle.prover.specs.declared.Held.{Held}
 use Rattle.prover.specs.declared.Held.the-variants as held
 use Rattle.prover.specs.declared.Session.{Session}
 use Rattle.prover.specs.declared.Changed.{Changed}
 use Rattle.prover.specs.declared.Answered.{Answered}
-use Rattle.prover.proofs.DemandThree.{Kept, nothing-in-range, added-kept, asked-as, call-kept}
+use Rattle.prover.proofs.DemandThree.{Kept, nothing-in-range, dropped-kept, set-kept, asked-as, call-kept}
 use Rattle.certificate.specs.Certificate as certificate
 use Rattle.certificate.specs.Judge.{judge}
 use Rattle.certificate.specs.Written.{problemOfBook, claimOfVerdict}
@@ -65,23 +65,46 @@ module _ (s : Session) (x : Option Certificate) (h : Standing s x) where
   after-call : (c : Call) (u : Session) → Kept s c u → (y : Option Certificate) → certificateHeld u (u .held) ≡ y → IsRight y → Standing u y
   after-call c u k y e right = record { in-range = k .1; reached = subst Reached (sym (k .0)) (next-reached (book s) c (h .reached)); held-is = e; right = right }
 
-  module _ (c : Call) (u : Changed) (a : Added s (number s (refusal (book s) c)) (taken (book s) c) u) where
+  -- A call that is taken, and one that is refused.
+  module _ (c : Call) (Rest : Session → Type 0) (u : Changed) (a : Changes s (number s (refusal (book s) c)) (taken (book s) c) Rest u)
+      (y : Option Certificate) (taken-stands : book (u .session) ≡ taken (book s) c → Rest (u .session) → Standing (u .session) y) where
     met : number s (refusal (book s) c) ≡ refusal (book s) c
     met = rw (h .in-range)
 
-    refused-same : (refusal (book s) c ≡ 0 → ⊥) → u .session ≡ s
-    refused-same d = a .unchanged (λ e. d (sym met ∙ e))
-
-    pub added : Standing (u .session) (cond (eqb (refusal (book s) c) 0) none x)
-    added = elim (decLe (refusal (book s) c) 0) [
+    changed : Standing (u .session) (cond (eqb (refusal (book s) c) 0) y x)
+    changed = elim (decLe (refusal (book s) c) 0) [
       | yes l ↦
           let e : refusal (book s) c ≡ 0 = omega arith in
-          let kept = added-kept s (h .in-range) (h .reached) c u a in
-          rw (eq-eqb (refusal (book s) c) 0 e) (after-call c (u .session) kept none (ap (certificateHeld (u .session)) (a .nothing (met ∙ e) .no-verdict)) tt)
+          rw (eq-eqb (refusal (book s) c) 0 e) (taken-stands (a .holds (met ∙ e)) (a .rest (met ∙ e)))
       | no l ↦
           let d : refusal (book s) c ≡ 0 → ⊥ = λ e. omega arith in
-          rw (ne-eqb (refusal (book s) c) 0 d) (subst (λ (v : Session). Standing v x) (sym (refused-same d)) h)
+          rw (ne-eqb (refusal (book s) c) 0 d) (subst (λ (v : Session). Standing v x) (sym (a .unchanged (λ e. d (sym met ∙ e)))) h)
     ]
+
+  -- Additions and returns drop the verdict.
+  pub dropped : (c : Call) (u : Changed) → Changes s (number s (refusal (book s) c)) (taken (book s) c) (NothingHeld (s .total)) u
+      → Standing (u .session) (cond (eqb (refusal (book s) c) 0) none x)
+  dropped c u a =
+      changed c (NothingHeld (s .total)) u a none
+      (λ b nothing. after-call c (u .session) (dropped-kept s (h .in-range) (h .reached) c u a) none (ap (certificateHeld (u .session)) (nothing .no-verdict)) tt)
+
+  -- Setting a mark keeps it.
+  held-same : (j : ℕ) (u : Session) → book u ≡ taken (book s) (B.setMark j) → VerdictKept s u → (v : Held) → certificateHeld u v ≡ certificateHeld s v
+  unfolding taken
+  held-same j u b kept held.Nothing = refl
+  held-same j u b kept (held.Valid g) = ap (λ (k : Book). some (record { problem = problemOfBook k g; claim = certificate.valid (k .steps) })) b
+  held-same j u b kept (held.Refuted g) =
+      ap₂ (λ (k : Book) (W : List ℕ). some (record { problem = problemOfBook k g; claim = certificate.refuted W })) b (ap worldsOf (kept .same-worlds))
+
+  pub mark-set : (j : ℕ) (u : Changed) → Changes s (number s (refusal (book s) (B.setMark j))) (taken (book s) (B.setMark j)) (VerdictKept s) u → Standing (u .session) x
+  mark-set j u a =
+      subst (Standing (u .session)) (same (eqb (refusal (book s) (B.setMark j)) 0)) (changed (B.setMark j) (VerdictKept s) u a x
+      (λ b kept. after-call (B.setMark j) (u .session) (set-kept s (h .in-range) (h .reached) j u a) x
+      (ap (certificateHeld (u .session)) (kept .same-verdict) ∙ held-same j (u .session) b kept (s .held) ∙ h .held-is) (h .right)))
+    where
+      same : (b : Bool) → cond b x x ≡ x
+      same true = refl
+      same false = refl
 
   answered : (g : ℕ) (u : Answered) → Kept s (B.question g) (u .session) → (o : Outcome) → answer (book s) g ≡ o → AskedAs s g o u
       → Standing (u .session) (orElse (withProblem (book s) g (claimOfVerdict (book s) o)) x)
@@ -99,11 +122,13 @@ module _ (s : Session) (x : Option Certificate) (h : Standing s x) where
   answered g u k unfinished e a = absurd (a .0)
 
   pub called : (c : Made) (u : Returned c) → Meets s c u → Standing (sessionOf c u) (keeps (book s) (callOf c) x)
-  unfolding refusal
-  called (addFlat left right) u m = added (callOf (addFlat left right)) u m
-  called (addImplication a b c) u m = added (callOf (addImplication a b c)) u m
+  unfolding refusal additionRefusal
+  called (addFlat left right) u m = dropped (callOf (addFlat left right)) u m
+  called (addImplication a b c) u m = dropped (callOf (addImplication a b c)) u m
   called (question g) u m =
       answered g u (call-kept s (h .in-range) (h .reached) (question g) u m) (answer (book s) g) refl (asked-as s (h .in-range) (h .reached) g u m)
+  called (setMark j) u m = mark-set j u m
+  called (returnTo j) u m = dropped (callOf (returnTo j)) u m
 
 run-stands : (cs : List Made) (s : Session) (x : Option Certificate) → Standing s x → (run : Run s cs) → Standing (endOf s cs run) (lastAnswer (book s) x (map callOf cs))
 unfolding lastAnswer

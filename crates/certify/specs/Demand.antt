@@ -26,13 +26,16 @@ abbrev pub withProblem : Book → ℕ → Option Claim → Option Certificate
 withProblem k g none = none
 withProblem k g (some c) = some (record { problem = problemOfBook k g; claim = c })
 
--- What there is to write after a call: an addition that is taken leaves nothing, a verdict its problem and answer; else it stays.
+-- What there is to write after a call: an addition or a return that is taken leaves nothing, a verdict its problem and answer; else
+-- it stays.
 abbrev pub keeps : Book → Call → Option Certificate → Option Certificate
-keeps k (B.addFlat f) x = cond (eqb (refusal k (B.addFlat f)) 0) none x
-keeps k (B.addImplication i) x = cond (eqb (refusal k (B.addImplication i)) 0) none x
+keeps k (B.add a) x = cond (eqb (refusal k (B.add a)) 0) none x
 keeps k (B.question g) x = orElse (withProblem k g (claimOfVerdict k (answer k g))) x
+keeps k (B.setMark j) x = x
+keeps k (B.returnTo j) x = cond (eqb (refusal k (B.returnTo j)) 0) none x
 
--- "The session keeps its last verdict until a clause is added", by the book alone: x is what there was before the calls.
+-- "The session keeps its last verdict until a clause is added", or a mark returned to; by the book alone: x is what there was before
+-- the calls.
 unfoldable pub lastAnswer : Book → Option Certificate → List Call → Option Certificate
 lastAnswer k x [] = x
 lastAnswer k x (c ∷ cs) = lastAnswer (next k c) (keeps k c x) cs

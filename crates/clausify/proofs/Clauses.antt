@@ -12,7 +12,7 @@ use Rattle.atoms.proofs.Members.{has-empty, has-union}
 use Rattle.ipl.specs.Lists.{any, All}
 use Rattle.ipl.specs.Clause.{bot, one, closings}
 use Rattle.ipl.specs.Kripke.{Model, IsModel, forcesAtom, ForcesEvery, ForcesSome, ForcesFlat, ForcesImplication}
-use Rattle.ipl.specs.Book.{Call, addFlat, addImplication, question}
+use Rattle.ipl.specs.Book.{Addition, addFlat, addImplication}
 use Rattle.ipl.proofs.Lists.{All-append, All-left, All-right}
 use Rattle.ipl.proofs.Range.{has-one, one-has}
 use Rattle.ipl.proofs.Soundness.{forced-atom, some-one}
@@ -20,13 +20,12 @@ use Rattle.clausify.specs.Naming.{setOf, clause}
 use Rattle.clausify.specs.Additions.{flatsBy, implicationsBy}
 
 -- What an addition brings is forced at the model's root.
-abbrev pub ForcesCall : Model → Call → Type 0
-ForcesCall m (addFlat f) = ForcesFlat m (m .root) f
-ForcesCall m (addImplication i) = All (ForcesFlat m (m .root)) (closings i) × ForcesImplication m (m .root) i
-ForcesCall m (question g) = Unit {0}
+abbrev pub ForcesAddition : Model → Addition → Type 0
+ForcesAddition m (addFlat f) = ForcesFlat m (m .root) f
+ForcesAddition m (addImplication i) = All (ForcesFlat m (m .root)) (closings i) × ForcesImplication m (m .root) i
 
-pub calls-forced : (m : Model) (cs : List Call)
-    → All (ForcesCall m) cs ↔ (All (ForcesFlat m (m .root)) (flatsBy cs) × All (ForcesImplication m (m .root)) (implicationsBy cs))
+pub calls-forced : (m : Model) (cs : List Addition)
+    → All (ForcesAddition m) cs ↔ (All (ForcesFlat m (m .root)) (flatsBy cs) × All (ForcesImplication m (m .root)) (implicationsBy cs))
 unfolding flatsBy implicationsBy
 calls-forced m [] = (λ h. (tt, tt), λ h. tt)
 calls-forced m (addFlat f ∷ cs) = (
@@ -40,7 +39,6 @@ calls-forced m (addImplication i ∷ cs) = (
     calls-forced m cs .1 (All-right (ForcesFlat m (m .root)) (closings i) (flatsBy cs) (h .0), h .1 .1),
   ),
 )
-calls-forced m (question g ∷ cs) = (λ h. calls-forced m cs .0 (h .1), λ h. (tt, calls-forced m cs .1 h))
 
 -- The world v forces each, or some, of the atoms of a list.
 abbrev Every : Model → ℕ → List ℕ → Type 0
@@ -94,26 +92,26 @@ abbrev Reads : Model → List ℕ → List ℕ → Type 0
 Reads m left right = (v : ℕ) → v < m .count → Every m v left → Some m v right
 
 module _ (m : Model) (ok : IsModel m) where
-  pub clause-forced : (left right : List ℕ) → All (ForcesCall m) (clause left right) ↔ Reads m left right
+  pub clause-forced : (left right : List ℕ) → All (ForcesAddition m) (clause left right) ↔ Reads m left right
   unfolding clause
   clause-forced left right = (
     λ h v lv t.
-        let forced : All (ForcesCall m) (cond false [] (addFlat (record { left = setOf left; right = setOf right }) ∷ [])) =
-        subst (λ (b : Bool). All (ForcesCall m) (cond b [] (addFlat (record { left = setOf left; right = setOf right }) ∷ []))) (no-bot m v left t) h in
+        let forced : All (ForcesAddition m) (cond false [] (addFlat (record { left = setOf left; right = setOf right }) ∷ [])) =
+        subst (λ (b : Bool). All (ForcesAddition m) (cond b [] (addFlat (record { left = setOf left; right = setOf right }) ∷ []))) (no-bot m v left t) h in
         set-some m v right (forced .0 v lv (ok .least v lv) (every-set m v left t)),
-    λ f. by-cond (All (ForcesCall m)) (any (eqb bot) left) [] (addFlat (record { left = setOf left; right = setOf right }) ∷ []) (λ e. tt)
+    λ f. by-cond (All (ForcesAddition m)) (any (eqb bot) left) [] (addFlat (record { left = setOf left; right = setOf right }) ∷ []) (λ e. tt)
         (λ e. (λ v lv l h. some-set m v right (f v lv (set-every m v left e h)), tt)),
   )
 
-  pub three-forced : (l r l2 r2 l3 r3 : List ℕ) → All (ForcesCall m) (clause l r ++ clause l2 r2 ++ clause l3 r3) ↔ (Reads m l r × Reads m l2 r2 × Reads m l3 r3)
+  pub three-forced : (l r l2 r2 l3 r3 : List ℕ) → All (ForcesAddition m) (clause l r ++ clause l2 r2 ++ clause l3 r3) ↔ (Reads m l r × Reads m l2 r2 × Reads m l3 r3)
   three-forced l r l2 r2 l3 r3 = (
     λ h.
-        let k = All-left (ForcesCall m) (clause l r ++ clause l2 r2) (clause l3 r3) h in (
-          clause-forced l r .0 (All-left (ForcesCall m) (clause l r) (clause l2 r2) k),
-          clause-forced l2 r2 .0 (All-right (ForcesCall m) (clause l r) (clause l2 r2) k),
-          clause-forced l3 r3 .0 (All-right (ForcesCall m) (clause l r ++ clause l2 r2) (clause l3 r3) h),
+        let k = All-left (ForcesAddition m) (clause l r ++ clause l2 r2) (clause l3 r3) h in (
+          clause-forced l r .0 (All-left (ForcesAddition m) (clause l r) (clause l2 r2) k),
+          clause-forced l2 r2 .0 (All-right (ForcesAddition m) (clause l r) (clause l2 r2) k),
+          clause-forced l3 r3 .0 (All-right (ForcesAddition m) (clause l r ++ clause l2 r2) (clause l3 r3) h),
         ),
     λ h.
-        All-append (ForcesCall m) (clause l r ++ clause l2 r2) (clause l3 r3)
-        (All-append (ForcesCall m) (clause l r) (clause l2 r2) (clause-forced l r .1 (h .0)) (clause-forced l2 r2 .1 (h .1))) (clause-forced l3 r3 .1 (h .2)),
+        All-append (ForcesAddition m) (clause l r ++ clause l2 r2) (clause l3 r3)
+        (All-append (ForcesAddition m) (clause l r) (clause l2 r2) (clause-forced l r .1 (h .0)) (clause-forced l2 r2 .1 (h .1))) (clause-forced l3 r3 .1 (h .2)),
   )

@@ -5,13 +5,13 @@ use native.Mathlib.Omega.{arith}
 use lib.ListN.{length, getD}
 use Rattle.ipl.specs.Lists.{All}
 use Rattle.ipl.specs.Clause.{bot}
-use Rattle.ipl.specs.Book.{Call}
+use Rattle.ipl.specs.Book.{Addition}
 use Rattle.ipl.proofs.Lists.{All-append, All-left, All-right}
 use Rattle.syntax.specs.Nodes.{Entry, letter, falsum, compound}
 use Rattle.clausify.specs.Naming.{letterCount, atomsFrom, atomsOf, atomAt, partCalls, callsFrom, calls}
 use Rattle.clausify.specs.Writing.{entryCalls}
 
-module _ (P : Call → Type 0) (A : List ℕ) where
+module _ (P : Addition → Type 0) (A : List ℕ) where
   from-at : (T : List Entry) (l x : ℕ) → All P (callsFrom A x T) → (i : ℕ) → i < length T → All P (entryCalls A (getD (atomsFrom l x T) i bot) (getD T i falsum))
   unfolding callsFrom atomsFrom
   from-at [] l x h i k = absurd (omega arith)
@@ -30,7 +30,7 @@ module _ (P : Call → Type 0) (A : List ℕ) where
   from-of (compound c a b ∷ T) l x h =
       All-append P (partCalls c x (getD A a bot) (getD A b bot)) (callsFrom A (suc x) T) (h 0 (omega arith)) (from-of T l (suc x) (λ i k. h (suc i) (omega arith)))
 
-module _ (P : Call → Type 0) (T : List Entry) where
+module _ (P : Addition → Type 0) (T : List Entry) where
   pub calls-at : All P (calls T) → (i : ℕ) → i < length T → All P (entryCalls (atomsOf T) (atomAt T i) (getD T i falsum))
   unfolding calls atomsOf
   calls-at h = from-at P (atomsOf T) T 0 (letterCount T) h

@@ -20,7 +20,7 @@ use Rattle.clausify.specs.Additions.{flatsBy, implicationsBy}
 use Rattle.clausify.proofs.Compounds.{calls-of}
 use Rattle.clausify.specs.Writing.{entryCalls}
 use Rattle.clausify.proofs.Atoms.{bot-falsum, partWith, part-found}
-use Rattle.clausify.proofs.Clauses.{ForcesCall, calls-forced}
+use Rattle.clausify.proofs.Clauses.{ForcesAddition, calls-forced}
 use Rattle.clausify.proofs.Part.{Same, withSets, joined-forces, name-clauses}
 
 -- The atom x is where the part with that atom is forced.
@@ -52,7 +52,7 @@ module _ (E : List Entry) (m : Model) (ok : IsModel m) where
         go true e = (λ t. absurd t, λ s. falsum-unforced (eqb-true (atomAt E i) bot e) s)
         go false e = rw (part-found E i l (eqb-false (atomAt E i) bot e)) (forces-tested m (formulaAt E i) v)
 
-    entry-forced : (i : ℕ) → i < length E → (e : Entry) → getD E i falsum ≡ e → All (ForcesCall (extended E m)) (entryCalls (atomsOf E) (atomAt E i) e)
+    entry-forced : (i : ℕ) → i < length E → (e : Entry) → getD E i falsum ≡ e → All (ForcesAddition (extended E m)) (entryCalls (atomsOf E) (atomAt E i) e)
     unfolding entryFormula formulaAt
     entry-forced i l (letter s) q = tt
     entry-forced i l falsum q = tt
@@ -65,4 +65,4 @@ module _ (E : List Entry) (m : Model) (ok : IsModel m) where
         (ap (forces m v) is ∙ sym (joined-forces (extended E m) (m .holds) c (formulaAt E a) (formulaAt E b) v)) (extended-atoms i l v lv))
 
     pub extended-clauses : All (ForcesFlat (extended E m) (m .root)) (flatsBy (calls E)) × All (ForcesImplication (extended E m) (m .root)) (implicationsBy (calls E))
-    extended-clauses = calls-forced (extended E m) (calls E) .0 (calls-of (ForcesCall (extended E m)) E (λ i l. entry-forced i l (getD E i falsum) refl))
+    extended-clauses = calls-forced (extended E m) (calls E) .0 (calls-of (ForcesAddition (extended E m)) E (λ i l. entry-forced i l (getD E i falsum) refl))

@@ -11,7 +11,7 @@ use Rattle.atoms.specs.Sets.{limit}
 use Rattle.atoms.specs.Words.{rowCount}
 use Rattle.atoms.proofs.Machine.{same-rows}
 use Rattle.ipl.specs.Clause.{bot, Implication}
-use Rattle.ipl.specs.Book.{Call}
+use Rattle.ipl.specs.Book.{Addition}
 use Rattle.ipl.specs.Lists.{tabulate}
 use Rattle.ipl.specs.Range.{flatTable, implicationTable, atomOrBot}
 use Rattle.ipl.proofs.Lists.{tabulate-length}
@@ -161,7 +161,7 @@ module _ (p : Parts) (r : Names) (g : Nameable p r) (l : length (r .atoms) ≡ r
       go (compound c a b) q = ap₂ (partCalls c (atomAt (held p) i)) (same a (q .0)) (same b (q .1))
 
   -- What was brought, and what the entries left will bring.
-  brought : {B : Type 0} (by : List Call → List B) → ((a b : List Call) → by (a ++ b) ≡ by a ++ by b) → (done : List B)
+  brought : {B : Type 0} (by : List Addition → List B) → ((a b : List Addition) → by (a ++ b) ≡ by a ++ by b) → (done : List B)
       → done ++ by (callsLeft p i) ≡ by (calls (held p))
       → (done ++ by (entryCalls (r .atoms) (getD (r .atoms) i 0) (entryAt p i d))) ++ by (callsLeft p (i + 1)) ≡ by (calls (held p))
   brought {B} by append done e =
@@ -169,11 +169,11 @@ module _ (p : Parts) (r : Names) (g : Nameable p r) (l : length (r .atoms) ≡ r
       ∙ ap (λ (l : List B). done ++ l) (sym (append here (callsLeft p (i + 1))) ∙ ap by all)
       ∙ e
     where
-      here : List Call
+      here : List Addition
       here = entryCalls (r .atoms) (getD (r .atoms) i 0) (entryAt p i d)
 
       all : here ++ callsLeft p (i + 1) ≡ callsLeft p i
-      all = ap (λ (cs : List Call). cs ++ callsLeft p (i + 1)) same-calls ∙ sym (calls-left p (g .sound) i d h)
+      all = ap (λ (cs : List Addition). cs ++ callsLeft p (i + 1)) same-calls ∙ sym (calls-left p (g .sound) i d h)
 
 pub record FlatsWritten (p : Parts) (left₀ right₀ left right : List ℕ) (k i : ℕ) : Type 0 where
   pub inside : i ≤ p .count
@@ -238,7 +238,7 @@ module _ (p : Parts) (r : Names) (g : Nameable p r) where
     }
 
   module _ (i : ℕ) (h : p .count ≤ i) where
-    none-brought : {B : Type 0} (by : List Call → List B) → by [] ≡ [] → (done : List B) → done ++ by (callsLeft p i) ≡ by (calls (held p)) → done ≡ by (calls (held p))
+    none-brought : {B : Type 0} (by : List Addition → List B) → by [] ≡ [] → (done : List B) → done ++ by (callsLeft p i) ≡ by (calls (held p)) → done ≡ by (calls (held p))
     none-brought {B} by none done e =
         sym (append-nil done) ∙ ap (λ (l : List B). done ++ l) (sym (ap by (calls-end p (g .sound) i h) ∙ none)) ∙ e
 

@@ -20,10 +20,10 @@ use Rattle.clausify.specs.Demand.{onLetters}
 use Rattle.clausify.proofs.Compounds.{calls-at}
 use Rattle.clausify.specs.Writing.{entryCalls}
 use Rattle.clausify.proofs.Atoms.{falsum-bot}
-use Rattle.clausify.proofs.Clauses.{ForcesCall, calls-forced}
+use Rattle.clausify.proofs.Clauses.{ForcesAddition, calls-forced}
 use Rattle.clausify.proofs.Part.{Same, joined-forces, clauses-name}
 
-module _ (E : List Entry) (ordered : WellOrdered E) (once : LettersOnce E) (m : Model) (ok : IsModel m) (h : All (ForcesCall m) (calls E)) where
+module _ (E : List Entry) (ordered : WellOrdered E) (once : LettersOnce E) (m : Model) (ok : IsModel m) (h : All (ForcesAddition m) (calls E)) where
   abbrev There : ℕ → Type 0
   There i = Same m (atomAt E i) (λ v. forces (onLetters E m) v (formulaAt E i))
 
@@ -36,7 +36,7 @@ module _ (E : List Entry) (ordered : WellOrdered E) (once : LettersOnce E) (m : 
       let early : (a < i) × (b < i) = subst (Earlier i) q (ordered i l) in
       subst (λ (X : Type 0). T (forcesAtom m v (atomAt E i)) ↔ X) (joined-forces m (onLetters E m .holds) c (formulaAt E a) (formulaAt E b) v)
       (clauses-name m ok (atomAt E i) (atomAt E a) (atomAt E b) (λ u. forces (onLetters E m) u (formulaAt E a)) (λ u. forces (onLetters E m) u (formulaAt E b))
-      (ih a (early .0)) (ih b (early .1)) c (subst (λ (x : Entry). All (ForcesCall m) (entryCalls (atomsOf E) (atomAt E i) x)) q (calls-at (ForcesCall m) E h i l)) v lv)
+      (ih a (early .0)) (ih b (early .1)) c (subst (λ (x : Entry). All (ForcesAddition m) (entryCalls (atomsOf E) (atomAt E i) x)) q (calls-at (ForcesAddition m) E h i l)) v lv)
 
   there : (k i : ℕ) → i < k → i < length E → There i
   there zero i lk l = absurd (omega arith)

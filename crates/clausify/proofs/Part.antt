@@ -17,7 +17,7 @@ use Rattle.ipl.proofs.Range.{one-has}
 use Rattle.ipl.proofs.Soundness.{forced-atom, some-one, atom-persists}
 use Rattle.syntax.specs.Nodes.{Connective, And, Or, Implies, connected}
 use Rattle.clausify.specs.Naming.{clause, partCalls}
-use Rattle.clausify.proofs.Clauses.{ForcesCall, Some, clause-forced, three-forced}
+use Rattle.clausify.proofs.Clauses.{ForcesAddition, Some, clause-forced, three-forced}
 
 -- The atom x is, at each world, where P is.
 abbrev pub Same : Model → ℕ → (ℕ → Type 0) → Type 0
@@ -50,17 +50,17 @@ module _ (m : Model) (ok : IsModel m) where
     none-there : eqb y bot ≡ true → (u : ℕ) → u < m .count → P u → ⊥
     none-there e u lu a = forced-atom m u y (p u lu .1 a) (eqb-true y bot e)
 
-    implies-name : (b : Bool) → eqb y bot ≡ b → All (ForcesCall m) (cond b (clause [] (x ∷ [])) (clause (x ∷ y ∷ []) (z ∷ []) ++ (addImplication (record { a = y; b = z; c = x }) ∷ [])))
+    implies-name : (b : Bool) → eqb y bot ≡ b → All (ForcesAddition m) (cond b (clause [] (x ∷ [])) (clause (x ∷ y ∷ []) (z ∷ []) ++ (addImplication (record { a = y; b = z; c = x }) ∷ [])))
         → Same m x (Joined m Implies P Q)
     implies-name true e h v lv = (λ t u lu k a. absurd (none-there e u lu a), λ s. only v x (clause-forced m ok [] (x ∷ []) .0 h v lv tt))
     implies-name false e h v lv =
-        let r = clause-forced m ok (x ∷ y ∷ []) (z ∷ []) .0 (All-left (ForcesCall m) (clause (x ∷ y ∷ []) (z ∷ [])) (addImplication (record { a = y; b = z; c = x }) ∷ []) h) in
-        let i = All-right (ForcesCall m) (clause (x ∷ y ∷ []) (z ∷ [])) (addImplication (record { a = y; b = z; c = x }) ∷ []) h in (
+        let r = clause-forced m ok (x ∷ y ∷ []) (z ∷ []) .0 (All-left (ForcesAddition m) (clause (x ∷ y ∷ []) (z ∷ [])) (addImplication (record { a = y; b = z; c = x }) ∷ []) h) in
+        let i = All-right (ForcesAddition m) (clause (x ∷ y ∷ []) (z ∷ [])) (addImplication (record { a = y; b = z; c = x }) ∷ []) h in (
           λ t u lu k a. q u lu .0 (only u z (r u lu (atom-persists m ok v u x lv lu k t, (p u lu .1 a, tt)))),
           λ s. i .0 .1 v lv (ok .least v lv) (λ u lu k t. q u lu .1 (s u lu k (p u lu .0 t))),
         )
 
-    pub clauses-name : (c : Connective) → All (ForcesCall m) (partCalls c x y z) → Same m x (Joined m c P Q)
+    pub clauses-name : (c : Connective) → All (ForcesAddition m) (partCalls c x y z) → Same m x (Joined m c P Q)
     unfolding partCalls
     clauses-name And h v lv =
         let r = three-forced m ok (x ∷ []) (y ∷ []) (x ∷ []) (z ∷ []) (y ∷ z ∷ []) (x ∷ []) .0 h in (
@@ -80,7 +80,7 @@ module _ (m : Model) (ok : IsModel m) where
         by-cond (All (ForcesFlat m (m .root))) (eqb z bot) [] _ (λ e. tt)
         (λ e. (λ v lv l h. some-one m v x (s v lv .1 (λ u lu k a. q u lu .0 (atom-persists m ok v u z lv lu k (h z (one-has z (eqb-false z bot e)))))), tt))
 
-    pub name-clauses : (c : Connective) → Same m x (Joined m c P Q) → All (ForcesCall m) (partCalls c x y z)
+    pub name-clauses : (c : Connective) → Same m x (Joined m c P Q) → All (ForcesAddition m) (partCalls c x y z)
     unfolding partCalls
     name-clauses And s =
         three-forced m ok (x ∷ []) (y ∷ []) (x ∷ []) (z ∷ []) (y ∷ z ∷ []) (x ∷ []) .1 (
@@ -95,7 +95,7 @@ module _ (m : Model) (ok : IsModel m) where
           λ v lv t. inl (s v lv .1 (inr (q v lv .0 (t .0)))),
         )
     name-clauses Implies s =
-        by-cond (All (ForcesCall m)) (eqb y bot) _ _ (λ e. clause-forced m ok [] (x ∷ []) .1 (λ v lv t. inl (s v lv .1 (λ u lu k a. absurd (none-there e u lu a)))))
-        (λ e. All-append (ForcesCall m) (clause (x ∷ y ∷ []) (z ∷ [])) (addImplication (record { a = y; b = z; c = x }) ∷ [])
+        by-cond (All (ForcesAddition m)) (eqb y bot) _ _ (λ e. clause-forced m ok [] (x ∷ []) .1 (λ v lv t. inl (s v lv .1 (λ u lu k a. absurd (none-there e u lu a)))))
+        (λ e. All-append (ForcesAddition m) (clause (x ∷ y ∷ []) (z ∷ [])) (addImplication (record { a = y; b = z; c = x }) ∷ [])
         (clause-forced m ok (x ∷ y ∷ []) (z ∷ []) .1 (λ v lv t. inl (q v lv .1 (s v lv .0 (t .0) v lv (ok .reflexive v lv) (p v lv .0 (t .1 .0))))))
         ((closing-forced s, λ v lv l f. s v lv .1 (λ u lu k a. q u lu .0 (f u lu k (p u lu .1 a)))), tt))

@@ -8,7 +8,7 @@ use native.Mathlib.Omega.{arith}
 use lib.ListN.{length, getD, drop, drop-of-length-le}
 use lib.Seq.{drop-cons}
 use Rattle.ipl.specs.Clause.{bot}
-use Rattle.ipl.specs.Book.{Call}
+use Rattle.ipl.specs.Book.{Addition}
 use Rattle.syntax.specs.Nodes.{Entry, letter, falsum, compound, named}
 use Rattle.syntax.specs.Parts.{entryOf, held, Sound}
 use Rattle.syntax.specs.declared.Part.{Part}
@@ -73,7 +73,7 @@ abbrev pub entryAt : Parts → ℕ → Node → Entry
 entryAt p i d = entryOf (getD (p .nodes) i d .part)
 
 -- The calls of entries with the atoms X, one after the other.
-callsWith : List ℕ → List ℕ → List Entry → List Call
+callsWith : List ℕ → List ℕ → List Entry → List Addition
 callsWith A [] T = []
 callsWith A (x ∷ X) [] = []
 callsWith A (x ∷ X) (e ∷ T) = entryCalls A x e ++ callsWith A X T
@@ -83,7 +83,7 @@ unfolding callsWith callsFrom atomsFrom
 calls-with A [] l x = refl
 calls-with A (letter k ∷ T) l x = calls-with A T (suc l) x
 calls-with A (falsum ∷ T) l x = calls-with A T l x
-calls-with A (compound c a b ∷ T) l x = ap (λ (cs : List Call). partCalls c x (getD A a bot) (getD A b bot) ++ cs) (calls-with A T l (suc x))
+calls-with A (compound c a b ∷ T) l x = ap (λ (cs : List Addition). partCalls c x (getD A a bot) (getD A b bot) ++ cs) (calls-with A T l (suc x))
 
 calls-with-none : (A X : List ℕ) → callsWith A X [] ≡ []
 unfolding callsWith
@@ -91,7 +91,7 @@ calls-with-none A [] = refl
 calls-with-none A (x ∷ X) = refl
 
 -- Those of the entries from i on.
-pub callsLeft : Parts → ℕ → List Call
+pub callsLeft : Parts → ℕ → List Addition
 callsLeft p i = callsWith (atomsOf (held p)) (drop i (atomsOf (held p))) (drop i (held p))
 
 pub calls-start : (p : Parts) → callsLeft p 0 ≡ calls (held p)

@@ -8,7 +8,7 @@ use lib.ListN.{length, getD, length-append}
 use Rattle.atoms.proofs.Truth.{by-cond}
 use Rattle.ipl.specs.Lists.{any}
 use Rattle.ipl.specs.Clause.{bot, Flat, Implication, closing, closings}
-use Rattle.ipl.specs.Book.{Call, addFlat, addImplication}
+use Rattle.ipl.specs.Book.{Addition, addFlat, addImplication}
 use Rattle.syntax.specs.Nodes.{Connective, And, Or, Implies, Entry, letter, falsum, compound, named}
 use Rattle.clausify.specs.Naming.{setOf, clause, partCalls, callsFrom}
 use Rattle.clausify.specs.Additions.{flatsBy, implicationsBy}
@@ -18,10 +18,10 @@ use Rattle.clausify.proofs.Additions.{flatsBy-append, implicationsBy-ap
 clause-size : (left right : List ℕ) → (length (flatsBy (clause left right)) ≤ 1) × (length (implicationsBy (clause left right)) ≤ 0)
 unfolding clause flatsBy implicationsBy
 clause-size left right =
-    by-cond (λ (cs : List Call). (length (flatsBy cs) ≤ 1) × (length (implicationsBy cs) ≤ 0)) (any (eqb bot) left) [] (addFlat (record { left = setOf left; right = setOf right }) ∷ [])
+    by-cond (λ (cs : List Addition). (length (flatsBy cs) ≤ 1) × (length (implicationsBy cs) ≤ 0)) (any (eqb bot) left) [] (addFlat (record { left = setOf left; right = setOf right }) ∷ [])
     (λ e. (omega arith, omega arith)) (λ e. (omega arith, omega arith))
 
-size-append : (cs ds : List Call) → (length (flatsBy (cs ++ ds)) ≡ length (flatsBy cs) + length (flatsBy ds))
+size-append : (cs ds : List Addition) → (length (flatsBy (cs ++ ds)) ≡ length (flatsBy cs) + length (flatsBy ds))
     × (length (implicationsBy (cs ++ ds)) ≡ length (implicationsBy cs) + length (implicationsBy ds))
 size-append cs ds = (
   ap length (flatsBy-append cs ds) ∙ length-append (flatsBy cs) (flatsBy ds),
@@ -44,7 +44,7 @@ unfolding partCalls flatsBy implicationsBy
 part-size And x y z = three-clauses (x ∷ []) (y ∷ []) (x ∷ []) (z ∷ []) (y ∷ z ∷ []) (x ∷ [])
 part-size Or x y z = three-clauses (x ∷ []) (y ∷ z ∷ []) (y ∷ []) (x ∷ []) (z ∷ []) (x ∷ [])
 part-size Implies x y z =
-    by-cond (λ (cs : List Call). (length (flatsBy cs) ≤ clausesOfName) × (length (implicationsBy cs) ≤ 1)) (eqb y bot) _ _
+    by-cond (λ (cs : List Addition). (length (flatsBy cs) ≤ clausesOfName) × (length (implicationsBy cs) ≤ 1)) (eqb y bot) _ _
     (λ e. let a = clause-size [] (x ∷ []) in (omega (arith, a .0), omega (arith, a .1)))
     (λ e.
     let i : Implication = record { a = y; b = z; c = x } in

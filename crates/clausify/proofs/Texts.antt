@@ -9,7 +9,7 @@ use Rattle.ipl.specs.Lists.{tabulate}
 use Rattle.ipl.specs.Clause.{bot, Flat}
 use Rattle.ipl.specs.Book.{Book, opened}
 use Rattle.sat.specs.Table.{clauses}
-use Rattle.prover.specs.State.{implicationsOf, stepsOf, book}
+use Rattle.prover.specs.State.{implicationsOf, stepsOf, marksOf, book}
 use Rattle.prover.specs.Calls.{NothingHeld, Asked}
 use Rattle.prover.specs.declared.Session.{Session}
 use Rattle.prover.specs.declared.Implications.{Implications}
@@ -47,9 +47,10 @@ module _ (p : Parts) (r : Names) (g : Nameable p r) (n : ℕ) (en : n ≡ max 1 
 
   pub session-holds : (left right : List ℕ) (k : ℕ) (x : Implications) → clauses left right k ≡ flatsBy (calls (held p))
       → implicationsOf x ≡ implicationsBy (calls (held p))
-      → _≡_ {A = Book} (record { n = s .n; flats = clauses left right k; implications = implicationsOf x; steps = stepsOf (s .steps) }) (tableBook (held p))
+      → _≡_ {A = Book} (record { n = s .n; flats = clauses left right k; implications = implicationsOf x; steps = stepsOf (s .steps); marks = marksOf (s .marks) }) (tableBook (held p))
   unfolding opened
-  session-holds left right k x et ex = λ i. record { n = session-count i; flats = et i; implications = ex i; steps = ap (λ (k : Book). k .steps) es i }
+  session-holds left right k x et ex =
+      λ i. record { n = session-count i; flats = et i; implications = ex i; steps = ap (λ (k : Book). k .steps) es i; marks = ap (λ (k : Book). k .marks) es i }
 
 -- Columns that nothing was written before.
 pub put-first : (left right left2 right2 : List ℕ) (k : ℕ) (F : List Flat) → Put left right 0 F left2 right2 k → clauses left2 right2 k ≡ F

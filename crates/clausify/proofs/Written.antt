@@ -18,7 +18,7 @@ use Rattle.ipl.specs.Lists.{any}
 use Rattle.ipl.specs.Clause.{bot, one, Flat, Implication, closing, closings}
 use Rattle.ipl.specs.Range.{atomOrBot}
 use Rattle.ipl.proofs.Range.{atom-or-bot, single-one}
-use Rattle.ipl.specs.Book.{Call, addFlat, addImplication}
+use Rattle.ipl.specs.Book.{Addition, addFlat, addImplication}
 use Rattle.sat.specs.Table.{clauses}
 use Rattle.prover.specs.State.{implicationsOf}
 use Rattle.prover.specs.Calls.{flatOf}
@@ -104,7 +104,7 @@ put-clause : (L R : List ℕ) (l r : AtomSet) (b : Bool) → b ≡ any (eqb bot)
 unfolding clause
 put-clause L R l r b e el er = (λ i. cond (e i) [] (record { left = el i; right = er i } ∷ [])) ∙ flats-cond (any (eqb bot) L) (record { left = setOf L; right = setOf R })
 
-three : (a b c : List Call) (F G H : List Flat) → F ≡ flatsBy a → G ≡ flatsBy b → H ≡ flatsBy c → F ++ G ++ H ≡ flatsBy (a ++ b ++ c)
+three : (a b c : List Addition) (F G H : List Flat) → F ≡ flatsBy a → G ≡ flatsBy b → H ≡ flatsBy c → F ++ G ++ H ≡ flatsBy (a ++ b ++ c)
 three a b c F G H ea eb ec = (λ i. ea i ++ eb i ++ ec i) ∙ sym (flatsBy-append (a ++ b) c ∙ ap (λ (R : List Flat). R ++ flatsBy c) (flatsBy-append a b))
 
 -- Of the name x with parts y and z, whose sets the code made.
@@ -249,8 +249,8 @@ module _ (A : List ℕ) (x : ℕ) (p : Part) where
           right-atom = subst (λ (a : ℕ). T (atomOrBot limit a)) (read-within A z bot 0 (q .2 .0)) (q .2 .1);
         }
 
-pub put-calls : (a b : List Call) (left right left2 right2 : List ℕ) (k k2 : ℕ) → a ≡ b → Put left right k (flatsBy a) left2 right2 k2 → Put left right k (flatsBy b) left2 right2 k2
-put-calls a b left right left2 right2 k k2 e = subst (λ (a : List Call). Put left right k (flatsBy a) left2 right2 k2) e
+pub put-calls : (a b : List Addition) (left right left2 right2 : List ℕ) (k k2 : ℕ) → a ≡ b → Put left right k (flatsBy a) left2 right2 k2 → Put left right k (flatsBy b) left2 right2 k2
+put-calls a b left right left2 right2 k k2 e = subst (λ (a : List Addition). Put left right k (flatsBy a) left2 right2 k2) e
 
 pub put-as : (c d : Connective) (x y z : ℕ) (left right left2 right2 : List ℕ) (k k2 : ℕ) → c ≡ d → Put left right k (flatsBy (partCalls (connectiveOf d) x y z)) left2 right2 k2
     → Put left right k (flatsBy (partCalls (connectiveOf c) x y z)) left2 right2 k2
@@ -259,7 +259,7 @@ put-as c d x y z left right left2 right2 k k2 e = put-calls _ _ left right left2
 -- ---- implications
 no-implication : (L R : List ℕ) → implicationsBy (clause L R) ≡ []
 unfolding clause implicationsBy
-no-implication L R = by-cond (λ (cs : List Call). implicationsBy cs ≡ []) (any (eqb bot) L) [] (addFlat (record { left = setOf L; right = setOf R }) ∷ []) (λ e. refl) (λ e. refl)
+no-implication L R = by-cond (λ (cs : List Addition). implicationsBy cs ≡ []) (any (eqb bot) L) [] (addFlat (record { left = setOf L; right = setOf R }) ∷ []) (λ e. refl) (λ e. refl)
 
 no-implications : (l r l2 r2 l3 r3 : List ℕ) → implicationsBy (clause l r ++ clause l2 r2 ++ clause l3 r3) ≡ []
 no-implications l r l2 r2 l3 r3 =
@@ -279,8 +279,8 @@ appended-nothing : (t : Implications) (X : List Implication) → X ≡ [] → Ap
 unfolding implicationsBy
 appended-nothing t X e = subst (λ (X : List Implication). Appended t X t) (sym e) (appended-none t)
 
-pub appended-calls : (t r : Implications) (a b : List Call) → a ≡ b → Appended t (implicationsBy a) r → Appended t (implicationsBy b) r
-appended-calls t r a b e = subst (λ (a : List Call). Appended t (implicationsBy a) r) e
+pub appended-calls : (t r : Implications) (a b : List Addition) → a ≡ b → Appended t (implicationsBy a) r → Appended t (implicationsBy b) r
+appended-calls t r a b e = subst (λ (a : List Addition). Appended t (implicationsBy a) r) e
 
 module _ (t : Implications) (c : Connective) (x y z : ℕ) where
   appended-as : (d : Connective) (r : Implications) → c ≡ d → Appended t (implicationsBy (partCalls (connectiveOf d) x y z)) r → Appended t (implicationsBy (partCalls (connectiveOf c) x y z)) r

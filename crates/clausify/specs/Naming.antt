@@ -1,13 +1,13 @@
 -- The naming of parts (document 01: "Each part of a formula is a letter, ⊥ or a connective with its two parts ..").
 use mathlib.Core.Bool.{cond}
-use mathlib.Core.List.{List, [], _∷_, _++_}
+use mathlib.Core.List.{List, [], _∷_, _++_, map}
 use Prim.Native.Nat.{ℕ, suc, max}
 use lib.Dec.{eqb}
 use lib.ListN.{getD}
 use Rattle.atoms.specs.Sets.{union}
 use Rattle.ipl.specs.Lists.{any}
 use Rattle.ipl.specs.Clause.{bot, one}
-use Rattle.ipl.specs.Book.{Book, Call, addFlat, addImplication, opened, after}
+use Rattle.ipl.specs.Book.{Book, Addition, addFlat, addImplication, add, opened, after}
 use Rattle.syntax.specs.Grammar.{Tree}
 use Rattle.syntax.specs.Nodes.{Connective, And, Or, Implies, Entry, letter, falsum, compound, nodes, named}
 
@@ -38,11 +38,11 @@ setOf [] = 0
 setOf (x ∷ l) = union (one x) (setOf l)
 
 -- The addition of a flat clause: "a clause with ⊥ on its left is not held".
-unfoldable pub clause : List ℕ → List ℕ → List Call
+unfoldable pub clause : List ℕ → List ℕ → List Addition
 clause left right = cond (any (eqb bot) left) [] (addFlat (record { left = setOf left; right = setOf right }) ∷ [])
 
 -- The clauses of the name x for the parts y and z.
-unfoldable pub partCalls : Connective → ℕ → ℕ → ℕ → List Call
+unfoldable pub partCalls : Connective → ℕ → ℕ → ℕ → List Addition
 -- "y & z: {x}→{y}, {x}→{z}, {y,z}→{x}"
 partCalls And x y z = clause (x ∷ []) (y ∷ []) ++ clause (x ∷ []) (z ∷ []) ++ clause (y ∷ z ∷ []) (x ∷ [])
 -- "y | z: {x}→{y,z}, {y}→{x}, {z}→{x}"
@@ -52,13 +52,13 @@ partCalls Implies x y z =
     cond (eqb y bot) (clause [] (x ∷ [])) (clause (x ∷ y ∷ []) (z ∷ []) ++ (addImplication (record { a = y; b = z; c = x }) ∷ []))
 
 -- "Clauses, name after name in rising number": those of a table's parts, where A has the atoms of all parts and the next name is x.
-unfoldable pub callsFrom : List ℕ → ℕ → List Entry → List Call
+unfoldable pub callsFrom : List ℕ → ℕ → List Entry → List Addition
 callsFrom A x [] = []
 callsFrom A x (letter l ∷ T) = callsFrom A x T
 callsFrom A x (falsum ∷ T) = callsFrom A x T
 callsFrom A x (compound c a b ∷ T) = partCalls c x (getD A a bot) (getD A b bot) ++ callsFrom A (suc x) T
 
-unfoldable pub calls : List Entry → List Call
+unfoldable pub calls : List Entry → List Addition
 calls T = callsFrom (atomsOf T) (letterCount T) T
 
 -- "With none at all n is 1."
@@ -67,7 +67,7 @@ atomCount T = max 1 (named T)
 
 -- "A text's session holds what an opening with its n and the additions of its clauses, in the order given below, would bring."
 unfoldable pub textBook : Tree → Book
-textBook t = after (opened (atomCount (nodes t .table))) (calls (nodes t .table))
+textBook t = after (opened (atomCount (nodes t .table))) (map add (calls (nodes t .table)))
 
 -- "The goal is the atom of the whole."
 unfoldable pub goalOf : Tree → ℕ

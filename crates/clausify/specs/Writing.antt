@@ -8,7 +8,7 @@ use Rattle.atoms.specs.Sets.{limit}
 use Rattle.atoms.specs.Words.{rowCount}
 use Rattle.ipl.specs.Clause.{bot, Flat, Implication}
 use Rattle.ipl.specs.Range.{flatTable, atomOrBot}
-use Rattle.ipl.specs.Book.{Call}
+use Rattle.ipl.specs.Book.{Addition}
 use Rattle.sat.specs.Table.{clauses}
 use Rattle.prover.specs.State.{implicationsOf}
 use Rattle.prover.specs.declared.Implications.{Implications}
@@ -30,7 +30,7 @@ namesIn (letter l) = 0
 namesIn falsum = 0
 namesIn (compound c a b) = 1
 
-abbrev pub entryCalls : List ℕ → ℕ → Entry → List Call
+abbrev pub entryCalls : List ℕ → ℕ → Entry → List Addition
 entryCalls A x (letter l) = []
 entryCalls A x falsum = []
 entryCalls A x (compound c a b) = partCalls c x (getD A a bot) (getD A b bot)

@@ -55,6 +55,7 @@ fn session_of(parts: Parts, names: Names) -> Session
     let steps = s.steps;
     let worlds = s.worlds;
     let held = s.held;
+    let marks = s.marks;
     Session {
         n: s.n,
         flats,
@@ -63,6 +64,7 @@ fn session_of(parts: Parts, names: Names) -> Session
         worlds,
         total: s.total,
         held,
+        marks,
     }
 }
 

@@ -6,9 +6,9 @@ use mathlib.Core.Path.{_≡_, refl, sym, _∙_, subst}
 use Prim.Native.Nat.{ℕ, _≤_, _<_}
 use native.Mathlib.Nat.{le-trans}
 use native.Mathlib.Omega.{arith}
-use lib.Dec.{T, eqb, leb, leb→le, eqb-refl}
+use lib.Dec.{T, eqb, leb, ltb, leb→le, eqb-refl}
 use lib.ListN.{length, length-append}
-use borrow.Author.Tests.{leb-false, eqb-true, eq-eqb, ne-eqb}
+use borrow.Author.Tests.{leb-false, ltb-true, eqb-true, eq-eqb, ne-eqb}
 use Rattle.atoms.specs.Sets.{limit}
 use Rattle.atoms.proofs.Machine.{limit-small, limit-least}
 use Rattle.atoms.proofs.Truth.{T-left, T-right, T-and, T-or, T-inl, T-inr, T-true, true-T, by-cond}
@@ -18,33 +18,47 @@ use Rattle.ipl.specs.Range.{flatTable, implicationTable, stepTable, atom
 use Rattle.ipl.specs.Search.{Step, State, Outcome, valid, refuted, refused, unfinished, NeedsNoMore, start, search}
 use Rattle.ipl.specs.Kripke.{Model, shown}
 use Rattle.ipl.specs.Claim.{Countermodel, StepsRight}
-use Rattle.ipl.specs.Book.{Book, Call, addFlat, addImplication, question, countInRange, opened, flatsFull}
-use Rattle.ipl.specs.Book.{flatRefusal, implicationRefusal, goalRefusal, answer, refusal, stepsAfter, taken, next, after}
-use Rattle.ipl.specs.Demand.{isValid, isRefuted, isVerdict, worldsOf, Settled, WellFormed, Answered, Claims}
+use Rattle.ipl.specs.Marks.{markTable, placeOf, isSet}
+use Rattle.ipl.specs.Book.{Book, Addition, addFlat, addImplication, Call, add, question, setMark, returnTo, countInRange, opened, flatsFull}
+use Rattle.ipl.specs.Book.{flatRefusal, implicationRefusal, additionRefusal, goalRefusal, answer, markRefusal, returnRefusal, refusal}
+use Rattle.ipl.specs.Book.{added, stepsAfter, taken, next, after}
+use Rattle.ipl.specs.Demand.{isValid, isRefuted, isVerdict, worldsOf, Settled, RowsWellFormed, Marked, WellFormed, Answered, Claims}
 use Rattle.ipl.proofs.Lists.{All-map, All-append, any-left, any-last}
 use Rattle.ipl.proofs.Range.{AtomOrBot, ImplicationBelow, atom-or-bot, flat-below, implication-below, one-in-range}
 use Rattle.ipl.proofs.PropositionTwo.{refuting-countermodel}
 use Rattle.ipl.proofs.Steps.{steps-more, step-numbers, clauses-same, derivation-sound}
 use Rattle.ipl.proofs.Witness.{Witnessed, witnessed-none, witnessed-same}
 use Rattle.ipl.proofs.Search.{OutcomeRight, search-right}
+use Rattle.ipl.proofs.Marks.{Longer, same, marked-map, longer-marked, set-marked, returned-marked}
 use Rattle.ipl.proofs.Limits.{Fits, Ended, search-ends, search-fits, verdict-iff-needs-no-more, eight-atoms}
 
--- What every book reached holds, and the witnesses of its steps.
-pub record Reached (k : Book) : Type 0 where
-  pub well-formed : WellFormed k
-  pub witnessed : Witnessed (k .n) (k .implications) (k .steps)
+-- What rows reached by calls hold, and the witnesses of their steps.
+pub record RowsReached (n : ℕ) (F : List Flat) (X : List Implication) (S : List Step) : Type 0 where
+  pub well-formed : RowsWellFormed n F X S
+  pub witnessed : Witnessed n X S
+
+-- What every book reached holds: of its rows, and of those up to each mark.
+abbrev pub Reached : Book → Type 0
+Reached = Marked RowsReached
+
+abbrev OwnRows : Book → Type 0
+OwnRows k = RowsReached (k .n) (k .flats) (k .implications) (k .steps)
 
 -- ---- an opening
 
 pub opened-reached : (n : ℕ) → Reached (opened n)
 unfolding opened
-opened-reached n = record { well-formed = fresh (cond (countInRange n) n 1) (count (countInRange n) refl); witnessed = witnessed-none _ [] }
+opened-reached n = record {
+  rows = record { well-formed = fresh (cond (countInRange n) n 1) (count (countInRange n) refl); witnessed = witnessed-none _ [] };
+  marks = tt;
+  ordered = tt;
+}
   where
     count : (b : Bool) → countInRange n ≡ b → (1 ≤ cond b n 1) × (cond b n 1 ≤ limit)
     count true e = unfold countInRange in (leb→le 1 n (T-left (leb 1 n) (leb n limit) (true-T e)), leb→le n limit (T-right (leb 1 n) (leb n limit) (true-T e)))
     count false e = (omega arith, omega (arith, limit-least))
 
-    fresh : (n : ℕ) → (1 ≤ n) × (n ≤ limit) → WellFormed (record { n = n; flats = []; implications = []; steps = [] })
+    fresh : (n : ℕ) → (1 ≤ n) × (n ≤ limit) → RowsWellFormed n [] [] []
     fresh n h = record {
       some = h .0;
       few = h .1;
@@ -101,6 +115,23 @@ pub goal-taken : (k : Book) (g : ℕ) → T (atomOrBot (k .n) g) → goalRefusal
 unfolding goalRefusal
 goal-taken k g t = rw (T-true (atomOrBot (k .n) g) t)
 
+pub mark-unrefused : (j : ℕ) → markRefusal j ≡ 0 → j < markTable
+unfolding markRefusal
+mark-unrefused j = go (ltb j markTable) refl
+  where
+    go : (b : Bool) → ltb j markTable ≡ b → _≡_ {A = ℕ} (cond b 0 17) 0 → j < markTable
+    go true e r = ltb-true j markTable e
+    go false e r = absurd (omega arith)
+
+pub return-unrefused : (k : Book) (j : ℕ) → returnRefusal k j ≡ 0 → placeOf j (k .marks) < length (k .marks)
+unfolding returnRefusal isSet
+return-unrefused k j = go (ltb j markTable) (ltb (placeOf j (k .marks)) (length (k .marks))) refl
+  where
+    go : (a b : Bool) → ltb (placeOf j (k .marks)) (length (k .marks)) ≡ b → _≡_ {A = ℕ} (cond a (cond b 0 18) 17) 0 → placeOf j (k .marks) < length (k .marks)
+    go true true e r = ltb-true (placeOf j (k .marks)) (length (k .marks)) e
+    go true false e r = absurd (omega arith)
+    go false b e r = absurd (omega arith)
+
 -- The answer to such a goal is that of the search.
 pub answer-searched : (k : Book) (g : ℕ) → goalRefusal k g ≡ 0 → answer k g ≡ search (k .n) (k .flats) (k .implications) g (k .steps)
 unfolding answer
@@ -131,7 +162,7 @@ closings-in-range n i o =
     by-cond (All (λ f. T (flatInRange n f))) (eqb (i .b) bot) [] (closing i ∷ []) (λ _. tt)
     (λ _. (T-and (setInRange n (one (i .b))) (setInRange n (one (i .c))) (one-in-range n (i .b) (o .b)) (one-in-range n (i .c) (o .c)), tt))
 
-closings-count : (k : Book) (i : Implication) → WellFormed k → ImplicationUnrefused k i → length (k .flats ++ closings i) ≤ flatTable
+closings-count : (k : Book) (i : Implication) → RowsWellFormed (k .n) (k .flats) (k .implications) (k .steps) → ImplicationUnrefused k i → length (k .flats ++ closings i) ≤ flatTable
 unfolding closings
 closings-count k i h u = go (eqb (i .b) bot) refl (u .row)
   where
@@ -140,10 +171,10 @@ closings-count k i h u = go (eqb (i .b) bot) refl (u .row)
     go false e (inl t) = absurd (true≢false (sym t ∙ e))
     go false e (inr l) = omega (arith, length-append (k .flats) (closing i ∷ []))
 
--- ---- each call that is taken keeps a reached book reached
+-- ---- each call that is taken keeps the rows of a reached book reached
 
-flat-reached : (k : Book) (f : Flat) → Reached k → flatRefusal k f ≡ 0 → Reached (taken k (addFlat f))
-unfolding taken
+flat-reached : (k : Book) (f : Flat) → OwnRows k → flatRefusal k f ≡ 0 → OwnRows (added k (addFlat f))
+unfolding added
 flat-reached k f r e =
     let h = r .well-formed in
     let u = flat-unrefused k f e in
@@ -163,8 +194,8 @@ flat-reached k f r e =
       witnessed = r .witnessed;
     }
 
-implication-reached : (k : Book) (i : Implication) → Reached k → implicationRefusal k i ≡ 0 → Reached (taken k (addImplication i))
-unfolding taken
+implication-reached : (k : Book) (i : Implication) → OwnRows k → implicationRefusal k i ≡ 0 → OwnRows (added k (addImplication i))
+unfolding added
 implication-reached k i r e =
     let h = r .well-formed in
     let u = implication-unrefused k i e in
@@ -187,18 +218,18 @@ implication-reached k i r e =
 
 module _ (k : Book) (g : ℕ) (r : Reached k) where
   implications-below : All (ImplicationBelow (k .n)) (k .implications)
-  implications-below = All-map (k .implications) (implication-below (k .n)) (r .well-formed .implications)
+  implications-below = All-map (k .implications) (implication-below (k .n)) (r .rows .well-formed .implications)
 
   abbrev outcome : Outcome
   outcome = search (k .n) (k .flats) (k .implications) g (k .steps)
 
   outcome-right : OutcomeRight (k .n) (k .flats) (k .implications) g (k .steps) outcome
-  outcome-right = search-right (k .n) (k .flats) (k .implications) g (k .steps) implications-below (r .well-formed .steps) (r .witnessed)
+  outcome-right = search-right (k .n) (k .flats) (k .implications) g (k .steps) implications-below (r .rows .well-formed .steps) (r .rows .witnessed)
 
   with-steps : (S : List Step) → length S ≤ stepTable → StepsRight (k .n) (k .flats) (k .implications) [] S → Witnessed (k .n) (k .implications) S
-      → Reached (record { n = k .n; flats = k .flats; implications = k .implications; steps = S })
+      → RowsReached (k .n) (k .flats) (k .implications) S
   with-steps S f s v =
-      let h = r .well-formed in
+      let h = r .rows .well-formed in
       record {
         well-formed = record {
           some = h .some;
@@ -215,20 +246,19 @@ module _ (k : Book) (g : ℕ) (r : Reached k) where
       }
 
   steps-reached : (o : Outcome) → OutcomeRight (k .n) (k .flats) (k .implications) g (k .steps) o → Fits o
-      → Reached (record { n = k .n; flats = k .flats; implications = k .implications; steps = stepsAfter (k .steps) o })
+      → RowsReached (k .n) (k .flats) (k .implications) (stepsAfter (k .steps) o)
   unfolding stepsAfter
   steps-reached (valid s) h f = with-steps (s .steps) (f .0) (h .grown .steps) (h .grown .witnessed)
   steps-reached (refuted s) h f = with-steps (s .steps) (f .1) (h .grown .steps) (h .grown .witnessed)
-  steps-reached (refused number) h f = r
-  steps-reached unfinished h f = r
+  steps-reached (refused number) h f = r .rows
+  steps-reached unfinished h f = r .rows
 
-  question-reached : Reached (taken k (question g))
-  unfolding taken answer
-  question-reached =
-      by-cond (λ o. Reached (record { n = k .n; flats = k .flats; implications = k .implications; steps = stepsAfter (k .steps) o }))
-      (eqb (goalRefusal k g) 0) outcome (refused (goalRefusal k g))
-      (λ _. steps-reached outcome outcome-right (search-fits (k .n) (k .flats) (k .implications) g (k .steps) (r .well-formed .step-count)))
-      (λ _. steps-reached (refused (goalRefusal k g)) tt tt)
+  pub steps-longer : (o : Outcome) → OutcomeRight (k .n) (k .flats) (k .implications) g (k .steps) o → Longer (k .steps) (stepsAfter (k .steps) o)
+  unfolding stepsAfter
+  steps-longer (valid s) h = (h .grown .new, h .grown .held-first)
+  steps-longer (refuted s) h = (h .grown .new, h .grown .held-first)
+  steps-longer (refused number) h = same (k .steps)
+  steps-longer unfinished h = same (k .steps)
 
   -- ---- the answer to a question
   pub answer-right : OutcomeRight (k .n) (k .flats) (k .implications) g (k .steps) (answer k g) × Fits (answer k g)
@@ -236,23 +266,29 @@ module _ (k : Book) (g : ℕ) (r : Reached k) where
   answer-right =
       by-cond (λ o. OutcomeRight (k .n) (k .flats) (k .implications) g (k .steps) o × Fits o)
       (eqb (goalRefusal k g) 0) outcome (refused (goalRefusal k g))
-      (λ _. (outcome-right, search-fits (k .n) (k .flats) (k .implications) g (k .steps) (r .well-formed .step-count))) (λ _. (tt, tt))
+      (λ _. (outcome-right, search-fits (k .n) (k .flats) (k .implications) g (k .steps) (r .rows .well-formed .step-count))) (λ _. (tt, tt))
+
+  question-reached : Reached (taken k (question g))
+  unfolding taken
+  question-reached =
+      longer-marked RowsReached k r (same (k .flats)) (same (k .implications)) (steps-longer (answer k g) (answer-right .0))
+      (steps-reached (answer k g) (answer-right .0) (answer-right .1))
 
   -- ---- and to one whose goal is in range
   module _ (in-range : AtomOrBot (k .n) g) where
     few : k .n ≤ bot
-    few = le-trans (r .well-formed .few) limit-small
+    few = le-trans (r .rows .well-formed .few) limit-small
 
     no-countermodel : (s : State) → OutcomeRight (k .n) (k .flats) (k .implications) g (k .steps) (valid s) → (m : Model) → Countermodel (k .flats) (k .implications) g m → ⊥
     no-countermodel s h =
-        derivation-sound (k .n) (k .flats) (k .implications) (All-map (k .flats) (flat-below (k .n)) (r .well-formed .flats)) implications-below few g in-range (s .steps) (h .derivation)
+        derivation-sound (k .n) (k .flats) (k .implications) (All-map (k .flats) (flat-below (k .n)) (r .rows .well-formed .flats)) implications-below few g in-range (s .steps) (h .derivation)
 
     worlds-countermodel : (s : State) → OutcomeRight (k .n) (k .flats) (k .implications) g (k .steps) (refuted s) → Countermodel (k .flats) (k .implications) g (shown (s .worlds))
     worlds-countermodel s h =
-        refuting-countermodel (k .n) few (s .worlds) (h .below) (k .flats) (k .implications) g (h .right .refuting) (r .well-formed .closings)
+        refuting-countermodel (k .n) few (s .worlds) (h .below) (k .flats) (k .implications) g (h .right .refuting) (r .rows .well-formed .closings)
 
     eight : k .n ≤ 8 → NeedsNoMore (k .n) (k .flats) (k .implications) g (start (k .steps))
-    eight l = eight-atoms (k .n) (k .flats) (k .implications) g implications-below l (k .steps) (r .well-formed .steps) (r .witnessed)
+    eight l = eight-atoms (k .n) (k .flats) (k .implications) g implications-below l (k .steps) (r .rows .well-formed .steps) (r .rows .witnessed)
 
     -- Whichever way the search ends, given that it ends in a verdict exactly if it needs no more.
     settled : (o : Outcome) → OutcomeRight (k .n) (k .flats) (k .implications) g (k .steps) o
@@ -280,18 +316,25 @@ module _ (k : Book) (g : ℕ) (r : Reached k) where
   pub question-settled : goalRefusal k g ≡ 0 → Settled k g (answer k g)
   question-settled e =
       rw (answer-searched k g e)
-      (settled (atom-or-bot (k .n) g (goal-unrefused k g e)) outcome outcome-right (verdict-iff-needs-no-more (k .n) (k .flats) (k .implications) g (k .steps) (r .well-formed .step-count)))
+      (settled (atom-or-bot (k .n) g (goal-unrefused k g e)) outcome outcome-right (verdict-iff-needs-no-more (k .n) (k .flats) (k .implications) g (k .steps) (r .rows .well-formed .step-count)))
 
   pub question-ended : goalRefusal k g ≡ 0 → Ended (answer k g)
   question-ended e = rw (answer-searched k g e) (search-ends (k .n) (k .flats) (k .implications) g (k .steps))
 
 -- ---- every call, and every list of calls
 
+added-reached : (k : Book) (a : Addition) → Reached k → additionRefusal k a ≡ 0 → Reached (added k a)
+unfolding additionRefusal added
+added-reached k (addFlat f) r e = longer-marked RowsReached k r (f ∷ [], refl) (same (k .implications)) (same (k .steps)) (flat-reached k f (r .rows) e)
+added-reached k (addImplication i) r e =
+    longer-marked RowsReached k r (closings i, refl) (i ∷ [], refl) (same (k .steps)) (implication-reached k i (r .rows) e)
+
 taken-reached : (k : Book) (c : Call) → Reached k → refusal k c ≡ 0 → Reached (taken k c)
-unfolding refusal
-taken-reached k (addFlat f) r e = flat-reached k f r e
-taken-reached k (addImplication i) r e = implication-reached k i r e
+unfolding refusal taken
+taken-reached k (add a) r e = added-reached k a r e
 taken-reached k (question g) r e = question-reached k g r
+taken-reached k (setMark j) r e = set-marked RowsReached k r j (mark-unrefused j e)
+taken-reached k (returnTo j) r e = returned-marked RowsReached k r (placeOf j (k .marks)) (return-unrefused k j e)
 
 pub next-reached : (k : Book) (c : Call) → Reached k → Reached (next k c)
 unfolding next
@@ -313,14 +356,18 @@ unfolding next
 refused-unchanged k c h = rw (ne-eqb (refusal k c) 0 h)
 
 answered : (k : Book) (c : Call) → Reached k → Answered k c
-answered k (addFlat f) r = tt
-answered k (addImplication i) r = tt
+answered k (add a) r = tt
 answered k (question g) r = question-settled k g r
+answered k (setMark j) r = tt
+answered k (returnTo j) r = tt
+
+well-formed : (k : Book) → Reached k → WellFormed k
+well-formed = marked-map (λ n F X S r. r .well-formed)
 
 pub claims : (cs : List Call) (k : Book) → Reached k → Claims k cs
-claims [] k r = r .well-formed
+claims [] k r = well-formed k r
 claims (c ∷ cs) k r = (
-  record { well-formed = r .well-formed; refused-unchanged = refused-unchanged k c; answered = answered k c r },
+  record { well-formed = well-formed k r; refused-unchanged = refused-unchanged k c; answered = answered k c r },
   claims cs (next k c) (next-reached k c r),
 )
 

@@ -11,4 +11,6 @@ pub mod Turn
 pub mod Witness
 pub mod Search
 pub mod Limits
+pub mod Marks
 pub mod Book
+pub mod Returns

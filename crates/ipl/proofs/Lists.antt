@@ -14,7 +14,7 @@ use lib.Seq.{getD-append-seam, take-all, take-append-le}
 use borrow.Author.Tests.{eqb-true, eqb-false}
 use native.Mathlib.Numerals.{add-one}
 use Rattle.atoms.proofs.Truth.{T-left, T-right, T-and, T-or, T-inl, T-inr, T-iff, T-true, T-false, true-T, false-T}
-use Rattle.ipl.specs.Lists.{all, any, tabulate, All, Distinct}
+use Rattle.ipl.specs.Lists.{all, any, tabulate, All, Pairwise, Distinct}
 
 -- ---- every element
 
@@ -223,11 +223,26 @@ tabulate-append f m zero = rw (add-zero m) (sym (append-nil (tabulate f m)))
 tabulate-append f m (suc n) =
     rw (add-suc m n) (ap (λ l. l ++ (f (m + n) ∷ [])) (tabulate-append f m n) ∙ append-assoc (tabulate f m) (tabulate (λ i. f (m + i)) n) (f (m + n) ∷ []))
 
+-- ---- what holds of each two
+
+pub pairwise-snoc : {A : Type 0} (R : A → A → Type 0) (l : List A) (m : A) → Pairwise R l → All (λ x. R x m) l → Pairwise R (l ++ (m ∷ []))
+pairwise-snoc R [] m d h = (tt, tt)
+pairwise-snoc R (x ∷ l) m d h = (All-append (R x) l (m ∷ []) (d .0) (h .0, tt), pairwise-snoc R l m (d .1) (h .1))
+
+pub pairwise-left : {A : Type 0} (R : A → A → Type 0) (l r : List A) → Pairwise R (l ++ r) → Pairwise R l
+pairwise-left R [] r h = tt
+pairwise-left R (x ∷ l) r h = (All-left (R x) l r (h .0), pairwise-left R l r (h .1))
+
+-- Those before the element at i.
+pub pairwise-before : {A : Type 0} (R : A → A → Type 0) (l : List A) (d : A) (i : ℕ) → i < length l → Pairwise R l → All (λ x. R x (getD l i d)) (take i l)
+pairwise-before R [] d i h p = absurd (not-suc-le-zero h)
+pairwise-before R (x ∷ l) d zero h p = tt
+pairwise-before R (x ∷ l) d (suc i) h p = (All-at (R x) l d (p .0) i (le-of-suc-le-suc h), pairwise-before R l d i (le-of-suc-le-suc h) (p .1))
+
 -- ---- no two equal
 
 pub distinct-snoc : {A : Type 0} (l : List A) (m : A) → Distinct l → All (λ y. y ≡ m → ⊥) l → Distinct (l ++ (m ∷ []))
-distinct-snoc [] m d h = (tt, tt)
-distinct-snoc (x ∷ l) m d h = (All-append (λ y. x ≡ y → ⊥) l (m ∷ []) (d .0) (h .0, tt), distinct-snoc l m (d .1) (h .1))
+distinct-snoc l m d h = pairwise-snoc (λ x y. x ≡ y → ⊥) l m d h
 
 -- The list without the number k.
 without : ℕ → List ℕ → List ℕ

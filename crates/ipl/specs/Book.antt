@@ -1,26 +1,34 @@
 -- The book of demand 3: what is held after a list of calls, and the number that each call meets (document 01).
 use mathlib.Core.Bool.{Bool, not, cond, _&&_}
 use mathlib.Core.List.{List, [], _∷_, _++_}
-use Prim.Native.Nat.{ℕ}
-use lib.Dec.{eqb, leb}
-use lib.ListN.{length}
+use Prim.Native.Nat.{ℕ, suc}
+use lib.Dec.{eqb, leb, ltb}
+use lib.ListN.{length, take}
 use Rattle.atoms.specs.Sets.{limit}
 use Rattle.ipl.specs.Clause.{bot, Flat, Implication, closings}
 use Rattle.ipl.specs.Range.{flatTable, implicationTable, atomOrBot, flatInRange, implicationInRange}
 use Rattle.ipl.specs.Search.{Step, Outcome, valid, refuted, refused, unfinished, search}
+use Rattle.ipl.specs.Marks.{markTable, Mark, setLast, placeOf, isSet, markAt}
 
--- "It has n, flat clauses, implications and learned steps, each in order."
+-- "It has n, flat clauses, implications and learned steps, each in order"; and marks, in the order in which they were last set.
 pub record Book : Type 0 where
   pub n : ℕ
   pub flats : List Flat
   pub implications : List Implication
   pub steps : List Step
+  pub marks : List Mark
 
--- "Adding a flat clause, adding an implication, putting a question."
+-- "Adding a flat clause, adding an implication,"
+pub data Addition : Type 0 where
+  addFlat : Flat → Addition
+  addImplication : Implication → Addition
+
+-- "putting a question"; setting a mark and coming back to it "join demand 3's list".
 pub data Call : Type 0 where
-  addFlat : Flat → Call
-  addImplication : Implication → Call
+  add : Addition → Call
   question : ℕ → Call
+  setMark : ℕ → Call
+  returnTo : ℕ → Call
 
 unfoldable pub countInRange : ℕ → Bool
 countInRange n = leb 1 n && leb n limit
@@ -31,7 +39,7 @@ openRefusal n = cond (countInRange n) 0 5
 
 -- "An opening gives its n, or 1 where n is out of range; the rest begins empty."
 unfoldable pub opened : ℕ → Book
-opened n = record { n = cond (countInRange n) n 1; flats = []; implications = []; steps = [] }
+opened n = record { n = cond (countInRange n) n 1; flats = []; implications = []; steps = []; marks = [] }
 
 unfoldable pub flatsFull : Book → Bool
 flatsFull k = leb flatTable (length (k .flats))
@@ -45,6 +53,10 @@ unfoldable pub implicationRefusal : Book → Implication → ℕ
 implicationRefusal k i =
     cond (not (implicationInRange (k .n) i)) 6
     (cond (not (eqb (i .b) bot) && flatsFull k) 7 (cond (leb implicationTable (length (k .implications))) 8 0))
+
+unfoldable pub additionRefusal : Book → Addition → ℕ
+additionRefusal k (addFlat f) = flatRefusal k f
+additionRefusal k (addImplication i) = implicationRefusal k i
 
 -- 6: a goal out of range.
 unfoldable pub goalRefusal : Book → ℕ → ℕ
@@ -60,11 +72,27 @@ numberOf (refuted s) = 0
 numberOf (refused number) = number
 numberOf unfinished = 0
 
+-- "17 for a mark number above 7,"
+unfoldable pub markRefusal : ℕ → ℕ
+markRefusal j = cond (ltb j markTable) 0 17
+
+-- "18 for a mark never set or lost."
+unfoldable pub returnRefusal : Book → ℕ → ℕ
+returnRefusal k j = cond (ltb j markTable) (cond (isSet j (k .marks)) 0 18) 17
+
 -- The number of the refusal that a call meets; 0 for none.
 unfoldable pub refusal : Book → Call → ℕ
-refusal k (addFlat f) = flatRefusal k f
-refusal k (addImplication i) = implicationRefusal k i
+refusal k (add a) = additionRefusal k a
 refusal k (question g) = numberOf (answer k g)
+refusal k (setMark j) = markRefusal j
+refusal k (returnTo j) = returnRefusal k j
+
+-- What an addition makes of the book.
+unfoldable pub added : Book → Addition → Book
+added k (addFlat f) =
+    record { n = k .n; flats = k .flats ++ (f ∷ []); implications = k .implications; steps = k .steps; marks = k .marks }
+added k (addImplication i) =
+    record { n = k .n; flats = k .flats ++ closings i; implications = k .implications ++ (i ∷ []); steps = k .steps; marks = k .marks }
 
 -- The steps held after an answer: "the new steps go to the end".
 unfoldable pub stepsAfter : List Step → Outcome → List Step
@@ -73,12 +101,32 @@ stepsAfter S (refuted s) = s .steps
 stepsAfter S (refused number) = S
 stepsAfter S unfinished = S
 
+-- Mark j, set now.
+abbrev pub markNow : Book → ℕ → Mark
+markNow k j = record { number = j; flats = length (k .flats); implications = length (k .implications); steps = length (k .steps) }
+
+-- "Coming back drops all that was added since": what the mark m remembers, with the marks M.
+abbrev pub cutTo : Book → Mark → List Mark → Book
+cutTo k m M = record {
+  n = k .n;
+  flats = take (m .flats) (k .flats);
+  implications = take (m .implications) (k .implications);
+  steps = take (m .steps) (k .steps);
+  marks = M;
+}
+
+-- "Marks last set after this one are lost": it stays with those before it.
+unfoldable pub returned : Book → ℕ → Book
+returned k i = cutTo k (markAt (k .marks) i) (take (suc i) (k .marks))
+
 -- What a call that is not refused makes of the book.
 unfoldable pub taken : Book → Call → Book
-taken k (addFlat f) = record { n = k .n; flats = k .flats ++ (f ∷ []); implications = k .implications; steps = k .steps }
-taken k (addImplication i) =
-    record { n = k .n; flats = k .flats ++ closings i; implications = k .implications ++ (i ∷ []); steps = k .steps }
-taken k (question g) = record { n = k .n; flats = k .flats; implications = k .implications; steps = stepsAfter (k .steps) (answer k g) }
+taken k (add a) = added k a
+taken k (question g) =
+    record { n = k .n; flats = k .flats; implications = k .implications; steps = stepsAfter (k .steps) (answer k g); marks = k .marks }
+taken k (setMark j) =
+    record { n = k .n; flats = k .flats; implications = k .implications; steps = k .steps; marks = setLast (markNow k j) (k .marks) }
+taken k (returnTo j) = returned k (placeOf j (k .marks))
 
 -- "A call that meets one of the caller's refusals, judged by the book, changes nothing", nor does one that meets 11 or 12.
 unfoldable pub next : Book → Call → Book

@@ -1,19 +1,20 @@
 -- Demand 3 as a statement about the book: what is claimed of every call of a list.
 use mathlib.Core.Bool.{Bool, true, false, _||_}
-use mathlib.Core.List.{List, [], _∷_}
+use mathlib.Core.List.{List, [], _∷_, _++_}
 use mathlib.Core.Logic.{_↔_}
 use mathlib.Core.Path.{_≡_}
-use Prim.Native.Nat.{ℕ, _≤_}
+use Prim.Native.Nat.{ℕ, _≤_, _<_}
 use lib.Dec.{T}
-use lib.ListN.{length}
+use lib.ListN.{length, take}
 use Rattle.atoms.specs.Sets.{limit}
-use Rattle.ipl.specs.Lists.{All}
-use Rattle.ipl.specs.Clause.{closed}
+use Rattle.ipl.specs.Lists.{All, Pairwise}
+use Rattle.ipl.specs.Clause.{Flat, Implication, closed}
 use Rattle.ipl.specs.Range.{flatTable, implicationTable, stepTable, flatInRange, implicationInRange}
-use Rattle.ipl.specs.Search.{Outcome, valid, refuted, refused, unfinished, NeedsNoMore, start}
+use Rattle.ipl.specs.Search.{Step, Outcome, valid, refuted, refused, unfinished, NeedsNoMore, start}
 use Rattle.ipl.specs.Kripke.{Model, shown}
 use Rattle.ipl.specs.Claim.{Countermodel, StepsRight}
-use Rattle.ipl.specs.Book.{Book, Call, addFlat, addImplication, question, goalRefusal, answer, refusal, next}
+use Rattle.ipl.specs.Marks.{markTable, Mark}
+use Rattle.ipl.specs.Book.{Book, Call, add, question, setMark, returnTo, opened, goalRefusal, answer, refusal, next, after}
 
 unfoldable pub isValid : Outcome → Bool
 isValid (valid s) = true
@@ -49,23 +50,53 @@ pub record Settled (k : Book) (g : ℕ) (o : Outcome) : Type 0 where
   -- "and over eight atoms or fewer it never needs either."
   pub eight : k .n ≤ 8 → NeedsNoMore (k .n) (k .flats) (k .implications) g (start (k .steps))
 
--- What every book reached by calls holds: numbers in range, tables not exceeded, closing clauses held, steps right.
-pub record WellFormed (k : Book) : Type 0 where
-  pub some : 1 ≤ k .n
-  pub few : k .n ≤ limit
-  pub flat-count : length (k .flats) ≤ flatTable
-  pub implication-count : length (k .implications) ≤ implicationTable
-  pub step-count : length (k .steps) ≤ stepTable
-  pub flats : All (λ f. T (flatInRange (k .n) f)) (k .flats)
-  pub implications : All (λ i. T (implicationInRange (k .n) i)) (k .implications)
-  pub closings : All (λ i. T (closed (k .flats) i)) (k .implications)
-  pub steps : StepsRight (k .n) (k .flats) (k .implications) [] (k .steps)
+-- What rows reached by calls hold: numbers in range, tables not exceeded, closing clauses held, steps right.
+pub record RowsWellFormed (n : ℕ) (F : List Flat) (X : List Implication) (S : List Step) : Type 0 where
+  pub some : 1 ≤ n
+  pub few : n ≤ limit
+  pub flat-count : length F ≤ flatTable
+  pub implication-count : length X ≤ implicationTable
+  pub step-count : length S ≤ stepTable
+  pub flats : All (λ f. T (flatInRange n f)) F
+  pub implications : All (λ i. T (implicationInRange n i)) X
+  pub closings : All (λ i. T (closed F i)) X
+  pub steps : StepsRight n F X [] S
+
+-- Something that is said of rows: n, flat clauses, implications, steps.
+abbrev pub OfRows : Type 1
+OfRows = ℕ → List Flat → List Implication → List Step → Type 0
+
+-- A mark set over these rows has a number, is not beyond them, and P holds of the rows up to it by themselves.
+pub record Remembers (P : OfRows) (n : ℕ) (F : List Flat) (X : List Implication) (S : List Step) (m : Mark) : Type 0 where
+  pub number : m .number < markTable
+  pub flats : m .flats ≤ length F
+  pub implications : m .implications ≤ length X
+  pub steps : m .steps ≤ length S
+  pub rows : P n (take (m .flats) F) (take (m .implications) X) (take (m .steps) S)
+
+-- The mark l, last set after m, has another number and remembers no less.
+pub record SetBefore (m l : Mark) : Type 0 where
+  pub differs : m .number ≡ l .number → ⊥
+  pub flats : m .flats ≤ l .flats
+  pub implications : m .implications ≤ l .implications
+  pub steps : m .steps ≤ l .steps
+
+-- P holds of the rows of the book, and for each of its marks of the rows up to it.
+pub record Marked (P : OfRows) (k : Book) : Type 0 where
+  pub rows : P (k .n) (k .flats) (k .implications) (k .steps)
+  pub marks : All (Remembers P (k .n) (k .flats) (k .implications) (k .steps)) (k .marks)
+  pub ordered : Pairwise SetBefore (k .marks)
+
+-- What every book reached by calls holds.
+abbrev pub WellFormed : Book → Type 0
+WellFormed = Marked RowsWellFormed
 
 -- Of a question "that meets none of the caller's refusals", that its answer is settled.
 abbrev pub Answered : Book → Call → Type 0
-Answered k (addFlat f) = Unit {0}
-Answered k (addImplication i) = Unit {0}
+Answered k (add a) = Unit {0}
 Answered k (question g) = goalRefusal k g ≡ 0 → Settled k g (answer k g)
+Answered k (setMark j) = Unit {0}
+Answered k (returnTo j) = Unit {0}
 
 -- Of a call to the book k, refused or not.
 pub record Claim (k : Book) (c : Call) : Type 0 where
@@ -77,3 +108,18 @@ pub record Claim (k : Book) (c : Call) : Type 0 where
 abbrev pub Claims : Book → List Call → Type 0
 Claims k [] = WellFormed k
 Claims k (c ∷ cs) = Claim k c × Claims (next k c) cs
+
+-- The books hold the same but for their marks.
+pub record SameRows (k l : Book) : Type 0 where
+  pub n : k .n ≡ l .n
+  pub flats : k .flats ≡ l .flats
+  pub implications : k .implications ≡ l .implications
+  pub steps : k .steps ≡ l .steps
+
+-- "Coming back drops all that was added since", learned steps included: after any calls since mark j was set, refused ones too, a
+-- return to it gives what was then held, or is refused since the mark is lost.
+abbrev pub ComesBack : Type 0
+ComesBack = (n : ℕ) (cs : List Call) (j : ℕ) → refusal (after (opened n) cs) (setMark j) ≡ 0
+    → (since : List Call) → All (λ c. c ≡ setMark j → ⊥) since
+    → refusal (after (after (opened n) cs) (setMark j ∷ since)) (returnTo j) ≡ 0
+    → SameRows (after (after (opened n) cs) (setMark j ∷ since ++ (returnTo j ∷ []))) (after (opened n) cs)

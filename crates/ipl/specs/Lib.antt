@@ -7,5 +7,6 @@ pub mod Search
 pub mod Formula
 pub mod Kripke
 pub mod Claim
+pub mod Marks
 pub mod Book
 pub mod Demand

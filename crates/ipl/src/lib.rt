@@ -19,6 +19,8 @@ pub const STEPS: usize = 512;
 
 pub const WORLDS: usize = 256;
 
+pub const MARKS: usize = 8;
+
 // The flat clauses and the clauses of the steps.
 pub const KNOWN: usize = FLATS + STEPS;
 

@@ -6,6 +6,7 @@ use libc::STDOUT_FILENO;
 use prover::Flats;
 use prover::Held;
 use prover::Implications;
+use prover::Mark;
 use prover::Session;
 use prover::Steps;
 use prover::Verdict;
@@ -132,6 +133,7 @@ fn with_held(s: Session, held: Held) -> Session {
     let implications = s.implications;
     let steps = s.steps;
     let worlds = s.worlds;
+    let marks = s.marks;
     Session {
         n: s.n,
         flats,
@@ -140,6 +142,7 @@ fn with_held(s: Session, held: Held) -> Session {
         worlds,
         total: s.total,
         held,
+        marks,
     }
 }
 
@@ -209,6 +212,76 @@ fn wrong_worlds(s: Session) {
     sets.sets[0] = OUTSIDE;
     t.worlds = sets;
     tried(b"world with atom 3", t);
+}
+
+// The answers to setting mark 1, a return to mark 0 and a question, each put to the session that the last one returned; then that session.
+fn print_marks(what: &[u8], s: Session) {
+    let set = prover::set_mark(s, 1);
+    let back = prover::return_to(set.session, 0);
+    let answered = prover::ask(back.session, 2);
+    let verdict = answered.verdict;
+    let marks = answered.session.marks;
+    print(what);
+    print_byte(b": mark ", set.refusal);
+    print_byte(b", return ", back.refusal);
+    print(b", question");
+    print_verdict(verdict);
+    print_number(b"; marks ", marks.count);
+    print_session(answered.session);
+}
+
+// So many marks, the first of which is this one, and the others are that.
+fn with_marks(s: Session, count: usize, first: Mark, other: Mark) -> Session {
+    let mut marks = s.marks;
+    marks.count = count;
+    marks.rows = [other; ipl::MARKS + 1];
+    marks.rows[0] = first;
+    let mut t = s;
+    t.marks = marks;
+    t
+}
+
+fn mark(number: u8, flats: usize, implications: usize, steps: usize) -> Mark {
+    Mark {
+        number,
+        flats,
+        implications,
+        steps,
+    }
+}
+
+fn wrong_marks(s: Session) {
+    let now = mark(0, 2, 1, 1);
+    let wrong = mark(8, 3, 2, 2);
+    print_marks(b"one mark", with_marks(s, 1, now, now));
+    print_marks(b"wrong mark in an unused row", with_marks(s, 1, now, wrong));
+    print_marks(b"nine marks", with_marks(s, 9, now, now));
+    print_marks(b"mark 8", with_marks(s, 1, mark(8, 2, 1, 1), now));
+    print_marks(
+        b"mark of 3 flat clauses",
+        with_marks(s, 1, mark(0, 3, 1, 1), now),
+    );
+    print_marks(
+        b"mark of 2 implications",
+        with_marks(s, 1, mark(0, 2, 2, 1), now),
+    );
+    print_marks(b"mark of 2 steps", with_marks(s, 1, mark(0, 2, 1, 2), now));
+}
+
+// In range, but no calls lead there.
+fn unreached_marks(s: Session) {
+    let start = mark(0, 0, 0, 0);
+    let now = mark(0, 2, 1, 1);
+    print_marks(b"mark 0 twice", with_marks(s, 2, start, now));
+    print_marks(b"mark 0 eight times", with_marks(s, 8, now, now));
+    print_marks(
+        b"marks that fall",
+        with_marks(s, 2, mark(2, 2, 1, 1), start),
+    );
+    print_marks(
+        b"marked step of a later implication",
+        with_marks(s, 1, mark(0, 2, 0, 1), now),
+    );
 }
 
 fn atom_counts_and_totals(s: Session) {
@@ -292,6 +365,8 @@ fn main() {
     wrong_implications(s);
     wrong_steps(s);
     wrong_worlds(s);
+    wrong_marks(s);
+    unreached_marks(s);
     verdicts(s);
     buffers(s);
     longest(full(s));

@@ -2,7 +2,9 @@
 pub mod Ranges
 pub mod Sessions
 pub mod Rows
+pub mod MarkRows
 pub mod Refusals
+pub mod Returns
 pub mod Beyond
 pub mod Pairs
 pub mod Dropping

@@ -17,7 +17,7 @@ use Rattle.ipl.proofs.Book.{flat-unrefused, ImplicationUnrefused, implication-u
 use Rattle.sat.specs.Table.{clauseAt, clauses}
 use Rattle.prover.specs.State.{implicationRow, flatsOf, implicationsOf, book}
 use Rattle.prover.specs.InRange.{inRange}
-use Rattle.prover.specs.Calls.{number, flatNumber, implicationNumber, NothingHeld, ClosingFits, Added}
+use Rattle.prover.specs.Calls.{number, flatNumber, implicationNumber, ClosingFits, Changes}
 use Rattle.prover.specs.declared.Session.{Session}
 use Rattle.prover.proofs.Sessions.{few-atoms}
 
@@ -33,14 +33,14 @@ number-zero s k = go (inRange s)
     go true e = (refl, e)
     go false e = absurd (omega arith)
 
--- ---- an addition that is taken, and one that is refused
+-- ---- a call that is taken, and one that is refused
 
-module _ (s : Session) (k : ℕ) (next : Book) (refusal : ℕ) (e : refusal ≡ k) where
-  pub addition-taken : refusal ≡ 0 → (u : Session) → (book u ≡ next) × NothingHeld (s .total) u → Added s k next (record { refusal = refusal; session = u })
-  addition-taken z u h = record { refused = e; unchanged = λ d. absurd (d (sym e ∙ z)); holds = λ _. h .0; nothing = λ _. h .1 }
+module _ (s : Session) (k : ℕ) (next : Book) (Rest : Session → Type 0) (refusal : ℕ) (e : refusal ≡ k) where
+  pub change-taken : refusal ≡ 0 → (u : Session) → (book u ≡ next) × Rest u → Changes s k next Rest (record { refusal = refusal; session = u })
+  change-taken z u h = record { refused = e; unchanged = λ d. absurd (d (sym e ∙ z)); holds = λ _. h .0; rest = λ _. h .1 }
 
-  pub addition-refused : (refusal ≡ 0 → ⊥) → Added s k next (record { refusal = refusal; session = s })
-  addition-refused d = record { refused = e; unchanged = λ _. refl; holds = λ z. absurd (d (e ∙ z)); nothing = λ z. absurd (d (e ∙ z)) }
+  pub change-refused : (refusal ≡ 0 → ⊥) → Changes s k next Rest (record { refusal = refusal; session = s })
+  change-refused d = record { refused = e; unchanged = λ _. refl; holds = λ z. absurd (d (e ∙ z)); rest = λ z. absurd (d (e ∙ z)) }
 
 pub flat-room : (s : Session) (f : Flat) → flatNumber s f ≡ 0 → s .flats .count < flatTable
 flat-room s f e =

@@ -11,11 +11,12 @@ use Rattle.atoms.proofs.Machine.{same-rows}
 use Rattle.atoms.proofs.Truth.{T-left, T-right, T-and, T-true, true-T}
 use Rattle.ipl.specs.Lists.{all}
 use Rattle.ipl.specs.Range.{flatTable, implicationTable, stepTable, worldTable, setInRange, flatInRange, implicationInRange}
+use Rattle.ipl.specs.Marks.{markTable, Mark}
 use Rattle.ipl.specs.Book.{countInRange}
 use Rattle.ipl.proofs.Lists.{all-All, All-tabulate}
 use Rattle.ipl.specs.Search.{stepInRange}
-use Rattle.prover.specs.State.{implicationRow, stepRow, flatsOf, implicationsOf, stepsOf, worldsOf}
-use Rattle.prover.specs.InRange.{flatsInRange, implicationsInRange, stepsInRange, worldsInRange, heldInRange, inRange}
+use Rattle.prover.specs.State.{implicationRow, stepRow, markRow, flatsOf, implicationsOf, stepsOf, worldsOf, marksOf}
+use Rattle.prover.specs.InRange.{flatsInRange, implicationsInRange, stepsInRange, worldsInRange, heldInRange, markInRange, marksInRange, inRange}
 use Rattle.prover.specs.Working.{Usable, firstPair, StepsFit, KnownWritten}
 use Rattle.prover.specs.Search.{Tables, tables, Fresh}
 use Rattle.prover.specs.Settling.{Prepared}
@@ -29,48 +30,51 @@ pub record Parts (s : Session) : Type 0 where
   pub steps : T (stepsInRange (s .n) (s .implications .count) (s .steps))
   pub worlds : T (worldsInRange (s .n) (s .worlds))
   pub held : T (heldInRange (s .n) (s .held))
+  pub marks : T (marksInRange (s .flats .count) (s .implications .count) (s .steps .count) (s .marks))
+
+-- Seven tests, one after the other.
+module _ (a b c d e f g : Bool) where
+  abbrev Each : Type 0
+  Each = T a × T b × T c × T d × T e × T f × T g
+
+  each : T (a && (b && (c && (d && (e && (f && g)))))) → Each
+  each h =
+      let from-b = T-right a (b && (c && (d && (e && (f && g))))) h in
+      let from-c = T-right b (c && (d && (e && (f && g)))) from-b in
+      let from-d = T-right c (d && (e && (f && g))) from-c in
+      let from-e = T-right d (e && (f && g)) from-d in
+      let from-f = T-right e (f && g) from-e in (
+        T-left a (b && (c && (d && (e && (f && g))))) h,
+        T-left b (c && (d && (e && (f && g)))) from-b,
+        T-left c (d && (e && (f && g))) from-c,
+        T-left d (e && (f && g)) from-d,
+        T-left e (f && g) from-e,
+        T-left f g from-f,
+        T-right f g from-f,
+      )
+
+  together : Each → T (a && (b && (c && (d && (e && (f && g))))))
+  together t =
+      T-and a (b && (c && (d && (e && (f && g))))) (t .0) (T-and b (c && (d && (e && (f && g)))) (t .1) (T-and c (d && (e && (f && g))) (t .2)
+      (T-and d (e && (f && g)) (t .3) (T-and e (f && g) (t .4) (T-and f g (t .5) (t .6))))))
 
 module _ (s : Session) where
-  abbrev a : Bool
-  a = countInRange (s .n)
+  abbrev marks-test : Bool
+  marks-test = marksInRange (s .flats .count) (s .implications .count) (s .steps .count) (s .marks)
 
-  abbrev b : Bool
-  b = flatsInRange (s .n) (s .flats)
-
-  abbrev c : Bool
-  c = implicationsInRange (s .n) (s .implications)
-
-  abbrev d : Bool
-  d = stepsInRange (s .n) (s .implications .count) (s .steps)
-
-  abbrev e : Bool
-  e = worldsInRange (s .n) (s .worlds)
-
-  abbrev f : Bool
-  f = heldInRange (s .n) (s .held)
-
-  parts : inRange s ≡ true → Parts s
+  pub parts : inRange s ≡ true → Parts s
   unfolding inRange
   parts h =
-      let k1 : T (b && (c && (d && (e && f)))) = T-right a (b && (c && (d && (e && f)))) (true-T h) in
-      let k2 : T (c && (d && (e && f))) = T-right b (c && (d && (e && f))) k1 in
-      let k3 : T (d && (e && f)) = T-right c (d && (e && f)) k2 in
-      let k4 : T (e && f) = T-right d (e && f) k3 in
-      record {
-        count = T-left a (b && (c && (d && (e && f)))) (true-T h);
-        flats = T-left b (c && (d && (e && f))) k1;
-        implications = T-left c (d && (e && f)) k2;
-        steps = T-left d (e && f) k3;
-        worlds = T-left e f k4;
-        held = T-right e f k4;
-      }
+      let t = each (countInRange (s .n)) (flatsInRange (s .n) (s .flats)) (implicationsInRange (s .n) (s .implications))
+      (stepsInRange (s .n) (s .implications .count) (s .steps)) (worldsInRange (s .n) (s .worlds)) (heldInRange (s .n) (s .held)) marks-test (true-T h) in
+      record { count = t .0; flats = t .1; implications = t .2; steps = t .3; worlds = t .4; held = t .5; marks = t .6 }
 
   pub of-parts : Parts s → inRange s ≡ true
   unfolding inRange
   of-parts p =
-      T-true (a && (b && (c && (d && (e && f)))))
-      (T-and a (b && (c && (d && (e && f)))) (p .count) (T-and b (c && (d && (e && f))) (p .flats) (T-and c (d && (e && f)) (p .implications)
-      (T-and d (e && f) (p .steps) (T-and e f (p .worlds) (p .held))))))
+      T-true (inRange s) (together (countInRange (s .n)) (flatsInRange (s .n) (s .flats)) (implicationsInRange (s .n) (s .implications))
+      (stepsInRange (s .n) (s .implications .count) (s .steps)) (worldsInRange (s .n) (s .worlds)) (heldInRange (s .n) (s .held)) marks-test
+      (p .count, p .flats, p .implications, p .steps, p .worlds, p .held, p .marks))
 
   module _ (in-range : inRange s ≡ true) where
     pub few-atoms : s .n ≤ limit
@@ -102,6 +106,30 @@ module _ (s : Session) where
     pub few-worlds : s .worlds .count ≤ worldTable
     unfolding worldsInRange
     few-worlds = leb→le (s .worlds .count) worldTable (T-left (leb (s .worlds .count) worldTable) (all (setInRange (s .n)) (worldsOf (s .worlds))) (parts in-range .worlds))
+
+    pub few-marks : s .marks .count ≤ markTable
+    unfolding marksInRange
+    few-marks = leb→le (s .marks .count) markTable
+        (T-left (leb (s .marks .count) markTable) (all (markInRange (s .flats .count) (s .implications .count) (s .steps .count)) (marksOf (s .marks))) (parts in-range .marks))
+
+    -- No mark is beyond what is held.
+    pub mark-inside : (i : ℕ) → i < s .marks .count → let m = markRow (s .marks) i in
+        (m .flats ≤ s .flats .count) × (m .implications ≤ s .implications .count) × (m .steps ≤ s .steps .count)
+    unfolding marksInRange markInRange
+    mark-inside i l =
+        let m = markRow (s .marks) i in
+        let test : Mark → Bool = markInRange (s .flats .count) (s .implications .count) (s .steps .count) in
+        let rows : T (all test (marksOf (s .marks))) = T-right (leb (s .marks .count) markTable) (all test (marksOf (s .marks))) (parts in-range .marks) in
+        let row : T (test m) = All-tabulate (λ m. T (test m)) (markRow (s .marks)) (s .marks .count) .0 (all-All test (marksOf (s .marks)) rows) i l in
+        let flats : Bool = leb (m .flats) (s .flats .count) in
+        let implications : Bool = leb (m .implications) (s .implications .count) in
+        let steps : Bool = leb (m .steps) (s .steps .count) in
+        let after-number = T-right (ltb (m .number) markTable) (flats && (implications && steps)) row in
+        let after-flats = T-right flats (implications && steps) after-number in (
+          leb→le (m .flats) (s .flats .count) (T-left flats (implications && steps) after-number),
+          leb→le (m .implications) (s .implications .count) (T-left implications steps after-flats),
+          leb→le (m .steps) (s .steps .count) (T-right implications steps after-flats),
+        )
 
     number-below : (k : ℕ) → k < s .steps .count → stepRow (s .steps) k .number < s .implications .count
     unfolding stepInRange

@@ -8,8 +8,9 @@ use Rattle.atoms.specs.Words.{num, singleOrEmpty}
 use Rattle.ipl.specs.Clause.{bot, one, Flat, Implication}
 use Rattle.ipl.specs.Range.{flatTable}
 use Rattle.ipl.specs.Search.{Step, State, Outcome, valid, refuted, refused, unfinished}
-use Rattle.ipl.specs.Book.{Book, addFlat, addImplication, opened, openRefusal, flatRefusal, implicationRefusal, goalRefusal, answer, taken}
-use Rattle.prover.specs.State.{flatsOf, implicationsOf, worldsOf, book}
+use Rattle.ipl.specs.Book.{Book, Addition, addFlat, addImplication, add, setMark, returnTo, opened, openRefusal, flatRefusal, implicationRefusal, goalRefusal, markRefusal, returnRefusal}
+use Rattle.ipl.specs.Book.{answer, taken}
+use Rattle.prover.specs.State.{flatsOf, implicationsOf, worldsOf, marksOf, book}
 use Rattle.prover.specs.InRange.{inRange}
 use Rattle.prover.specs.declared.Held.{Held}
 use Rattle.prover.specs.declared.Held.the-variants as held
@@ -36,11 +37,27 @@ flatNumber s f = number s (flatRefusal (book s) f)
 abbrev pub implicationNumber : Session → Implication → ℕ
 implicationNumber s i = number s (implicationRefusal (book s) i)
 
+abbrev pub additionNumber : Session → Addition → ℕ
+additionNumber s (addFlat f) = flatNumber s f
+additionNumber s (addImplication i) = implicationNumber s i
+
+abbrev pub markNumber : Session → ℕ → ℕ
+markNumber s j = number s (markRefusal j)
+
+abbrev pub returnNumber : Session → ℕ → ℕ
+returnNumber s j = number s (returnRefusal (book s) j)
+
 -- No verdict, no world, and the total of questions as it was.
 pub record NothingHeld (total : ℕ) (s : Session) : Type 0 where
   pub no-verdict : s .held ≡ held.Nothing
   pub no-worlds : worldsOf (s .worlds) ≡ []
   pub same-total : s .total ≡ total
+
+-- The verdict, the worlds and the total of questions as they were in s.
+pub record VerdictKept (s r : Session) : Type 0 where
+  pub same-verdict : r .held ≡ s .held
+  pub same-worlds : r .worlds ≡ s .worlds
+  pub same-total : r .total ≡ s .total
 
 -- There is room for the closing clause of (a → b) → c, if it has one, and b and c are atoms or ⊥.
 pub record ClosingFits (t : Flats) (b c : ℕ) : Type 0 where
@@ -54,20 +71,29 @@ pub record Opened (n : ℕ) (r : Changed) : Type 0 where
   pub holds : book (r .session) ≡ opened n
   pub nothing : NothingHeld 0 (r .session)
 
--- An addition to s that meets `refusal`, or makes its book `next`.
-pub record Added (s : Session) (refusal : ℕ) (next : Book) (r : Changed) : Type 0 where
+-- A call on s that meets `refusal`, or makes its book `next` and leaves the rest of the session so.
+pub record Changes (s : Session) (refusal : ℕ) (next : Book) (Rest : Session → Type 0) (r : Changed) : Type 0 where
   pub refused : r .refusal ≡ refusal
   pub unchanged : (refusal ≡ 0 → ⊥) → r .session ≡ s
   pub holds : refusal ≡ 0 → book (r .session) ≡ next
-  pub nothing : refusal ≡ 0 → NothingHeld (s .total) (r .session)
+  pub rest : refusal ≡ 0 → Rest (r .session)
 
 -- The contracts of the two additions.
+abbrev pub Added : Session → Addition → Changed → Type 0
+Added s x = Changes s (additionNumber s x) (taken (book s) (add x)) (NothingHeld (s .total))
+
 abbrev pub FlatAdded : Session → AtomSet → AtomSet → Changed → Type 0
-FlatAdded s left right = Added s (flatNumber s (flatOf left right)) (taken (book s) (addFlat (flatOf left right)))
+FlatAdded s left right = Added s (addFlat (flatOf left right))
 
 abbrev pub ImplicationAdded : Session → ℕ → ℕ → ℕ → Changed → Type 0
-ImplicationAdded s a b c =
-    Added s (implicationNumber s (record { a = a; b = b; c = c })) (taken (book s) (addImplication (record { a = a; b = b; c = c })))
+ImplicationAdded s a b c = Added s (addImplication (record { a = a; b = b; c = c }))
+
+-- Those of marks: "any verdict held" is dropped by a return, and stays where one is set.
+abbrev pub MarkSet : Session → ℕ → Changed → Type 0
+MarkSet s j = Changes s (markNumber s j) (taken (book s) (setMark j)) (VerdictKept s)
+
+abbrev pub MarkReturned : Session → ℕ → Changed → Type 0
+MarkReturned s j = Changes s (returnNumber s j) (taken (book s) (returnTo j)) (NothingHeld (s .total))
 
 -- ---- questions
 
@@ -98,7 +124,8 @@ VerdictIs g unfinished r = ⊥
 
 -- The book of s with other steps.
 abbrev pub withSteps : Session → List Step → Book
-withSteps s S = record { n = s .n; flats = flatsOf (s .flats); implications = implicationsOf (s .implications); steps = S }
+withSteps s S =
+    record { n = s .n; flats = flatsOf (s .flats); implications = implicationsOf (s .implications); steps = S; marks = marksOf (s .marks) }
 
 -- The session r after s and a search that ended there: the same clauses, the search's steps, and its questions counted.
 pub record Searched (s : Session) (end : State) (r : Session) : Type 0 where

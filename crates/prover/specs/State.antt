@@ -7,12 +7,15 @@ use Rattle.atoms.specs.Words.{rowOf}
 use Rattle.ipl.specs.Lists.{tabulate}
 use Rattle.ipl.specs.Clause.{Flat, Implication}
 use Rattle.ipl.specs.Search.{Step}
+use Rattle.ipl.specs.Marks.{Mark}
 use Rattle.ipl.specs.Book.{Book}
 use Rattle.sat.specs.Table.{clauses}
 use Rattle.prover.specs.declared.Flats.{Flats}
 use Rattle.prover.specs.declared.Implications.{Implications}
 use Rattle.prover.specs.declared.Steps.{Steps}
 use Rattle.prover.specs.declared.Worlds.{Worlds}
+use Rattle.prover.specs.declared.Mark as code
+use Rattle.prover.specs.declared.Marks.{Marks}
 use Rattle.prover.specs.declared.Session.{Session}
 
 -- Row i of a column of bytes.
@@ -25,6 +28,12 @@ implicationRow t i = record { a = byteAt (t .a) i; b = byteAt (t .b) i; c = byte
 
 abbrev pub stepRow : Steps → ℕ → Step
 stepRow t i = record { number = byteAt (t .numbers) i; assumed = rowOf (t .assumed) i }
+
+abbrev pub markOf : code.Mark → Mark
+markOf m = record { number = m .number; flats = m .flats; implications = m .implications; steps = m .steps }
+
+abbrev pub markRow : Marks → ℕ → Mark
+markRow t i = markOf (getD (t .rows) i (record { number = 0; flats = 0; implications = 0; steps = 0 }))
 
 -- The held rows.
 abbrev pub flatsOf : Flats → List Flat
@@ -39,6 +48,13 @@ stepsOf t = tabulate (stepRow t) (t .count)
 abbrev pub worldsOf : Worlds → List ℕ
 worldsOf t = tabulate (rowOf (t .sets)) (t .count)
 
--- The book that a session holds.
+abbrev pub marksOf : Marks → List Mark
+marksOf t = tabulate (markRow t) (t .count)
+
+-- The book of n atoms that tables hold, and that of a session.
+abbrev pub bookOf : ℕ → Flats → Implications → Steps → Marks → Book
+bookOf n flats implications steps marks =
+    record { n = n; flats = flatsOf flats; implications = implicationsOf implications; steps = stepsOf steps; marks = marksOf marks }
+
 abbrev pub book : Session → Book
-book s = record { n = s .n; flats = flatsOf (s .flats); implications = implicationsOf (s .implications); steps = stepsOf (s .steps) }
+book s = bookOf (s .n) (s .flats) (s .implications) (s .steps) (s .marks)

@@ -2,6 +2,8 @@
 use super::Flats;
 use super::Held;
 use super::Implications;
+use super::Mark;
+use super::Marks;
 use super::Session;
 use super::Steps;
 use super::Worlds;
@@ -11,13 +13,13 @@ ghost use mathlib.Core.List.{[], _∷_, _++_};
 ghost use Prim.Native.Nat.{ℕ, _<_};
 ghost use Rattle.ipl.specs.Clause.{closings};
 ghost use Rattle.ipl.specs.Range.{flatTable, implicationTable};
-ghost use Rattle.ipl.specs.Book.{addFlat, addImplication, taken};
-ghost use Rattle.prover.specs.State.{flatsOf, implicationsOf, stepsOf, book};
+ghost use Rattle.ipl.specs.Book.{addFlat, addImplication, add, taken};
+ghost use Rattle.prover.specs.State.{flatsOf, implicationsOf, bookOf, book};
 ghost use Rattle.prover.specs.Calls.{flatOf, flatNumber, implicationNumber, NothingHeld, ClosingFits};
 
 // The empty session of n atoms.
 pub fn empty(n: u8) -> Session
-    ensures { λ r. ⌜ (book r ≡ record { n = n; flats = []; implications = []; steps = [] }) × NothingHeld 0 r ⌝ }
+    ensures { λ r. ⌜ (book r ≡ record { n = n; flats = []; implications = []; steps = []; marks = [] }) × NothingHeld 0 r ⌝ }
 {
     let flats = Flats {
         count: 0,
@@ -39,6 +41,16 @@ pub fn empty(n: u8) -> Session
         count: 0,
         sets: [0; ipl::WORLDS * atoms::WORDS],
     };
+    let unused = Mark {
+        number: 0,
+        flats: 0,
+        implications: 0,
+        steps: 0,
+    };
+    let marks = Marks {
+        count: 0,
+        rows: [unused; ipl::MARKS + 1],
+    };
     Session {
         n,
         flats,
@@ -47,6 +59,7 @@ pub fn empty(n: u8) -> Session
         worlds,
         total: 0,
         held: Held::Nothing,
+        marks,
     }
 }
 
@@ -92,13 +105,18 @@ fn with_closing(t: Flats, b: u8, c: u8) -> Flats
     }
 }
 
-// The session with other clauses, and no verdict.
-fn with_clauses(s: Session, flats: Flats, implications: Implications) -> Session
-    ensures { λ r. ⌜ (book r ≡ record { n = s .n; flats = flatsOf flats; implications = implicationsOf implications; steps = stepsOf (s .steps) }) × NothingHeld (s .total) r ⌝ }
+// The session with other rows, and no verdict.
+pub fn with_rows(
+    s: Session,
+    flats: Flats,
+    implications: Implications,
+    steps: Steps,
+    marks: Marks,
+) -> Session
+    ensures { λ r. ⌜ (book r ≡ bookOf (s .n) flats implications steps marks) × NothingHeld (s .total) r ⌝ }
 {
     let mut worlds = s.worlds;
     worlds.count = 0;
-    let steps = s.steps;
     let held = Held::Nothing;
     Session {
         n: s.n,
@@ -108,25 +126,25 @@ fn with_clauses(s: Session, flats: Flats, implications: Implications) -> Session
         worlds,
         total: s.total,
         held,
+        marks,
     }
 }
 
 // One flat clause more. The caller has seen that it is not refused.
 pub fn with_flat(s: Session, left: AtomSet, right: AtomSet) -> Session
     requires { ⌜ flatNumber s (flatOf left right) ≡ 0 ⌝ }
-    ensures { λ r. ⌜ (book r ≡ taken (book s) (addFlat (flatOf left right))) × NothingHeld (s .total) r ⌝ }
+    ensures { λ r. ⌜ (book r ≡ taken (book s) (add (addFlat (flatOf left right)))) × NothingHeld (s .total) r ⌝ }
 {
     let flats = with_flat_row(s.flats, left, right);
-    let implications = s.implications;
-    with_clauses(s, flats, implications)
+    with_rows(s, flats, s.implications, s.steps, s.marks)
 }
 
 // One implication more, with its closing clause. The caller has seen that it is not refused.
 pub fn with_implication(s: Session, a: u8, b: u8, c: u8) -> Session
     requires { ⌜ implicationNumber s (record { a = a; b = b; c = c }) ≡ 0 ⌝ }
-    ensures { λ r. ⌜ (book r ≡ taken (book s) (addImplication (record { a = a; b = b; c = c }))) × NothingHeld (s .total) r ⌝ }
+    ensures { λ r. ⌜ (book r ≡ taken (book s) (add (addImplication (record { a = a; b = b; c = c })))) × NothingHeld (s .total) r ⌝ }
 {
     let flats = with_closing(s.flats, b, c);
     let implications = with_implication_row(s.implications, a, b, c);
-    with_clauses(s, flats, implications)
+    with_rows(s, flats, implications, s.steps, s.marks)
 }

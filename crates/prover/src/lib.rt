@@ -1,8 +1,9 @@
 // A session: it holds clauses, decides whether they force a goal, and keeps what it learned.
 use atoms::AtomSet;
-ghost use Rattle.prover.specs.Calls.{Opened, FlatAdded, ImplicationAdded, Asked};
+ghost use Rattle.prover.specs.Calls.{Opened, FlatAdded, ImplicationAdded, Asked, MarkSet, MarkReturned};
 
 mod additions;
+mod marking;
 mod question;
 mod range;
 mod realization;
@@ -37,7 +38,21 @@ pub struct Worlds {
     pub sets: [u64; ipl::WORLDS * atoms::WORDS],
 }
 
-// The last verdict with its goal, until a clause is added.
+// A mark's number, and how many flat clauses, implications and steps it remembers.
+pub struct Mark {
+    pub number: u8,
+    pub flats: usize,
+    pub implications: usize,
+    pub steps: usize,
+}
+
+// In the order in which they were last set. There is a row more than there are numbers, so that one more always has room.
+pub struct Marks {
+    pub count: usize,
+    pub rows: [Mark; ipl::MARKS + 1],
+}
+
+// The last verdict with its goal, until a clause is added or a mark returned to.
 pub enum Held {
     Nothing,
     Valid(u8),
@@ -53,6 +68,7 @@ pub struct Session {
     pub worlds: Worlds,
     pub total: u32,
     pub held: Held,
+    pub marks: Marks,
 }
 
 // The number of a refusal, or 0; and the session that the caller goes on with.
@@ -137,6 +153,42 @@ pub fn ask(s: Session, goal: u8) -> Answered
     } else {
         Answered {
             verdict: Verdict::Refused(refusal, 0),
+            session: s,
+        }
+    }
+}
+
+// Sets a mark: what is held now can be come back to. Refused 5, 17: the session as given.
+pub fn set_mark(s: Session, mark: u8) -> Changed
+    ensures { λ r. ⌜ MarkSet s mark r ⌝ }
+{
+    let refusal = range::mark_refusal(s, mark);
+    if refusal == 0 {
+        Changed {
+            refusal,
+            session: marking::with_mark(s, mark),
+        }
+    } else {
+        Changed {
+            refusal,
+            session: s,
+        }
+    }
+}
+
+// Comes back to a mark: what was added since is dropped, and so is the verdict. Refused 5, 17, 18: the session as given.
+pub fn return_to(s: Session, mark: u8) -> Changed
+    ensures { λ r. ⌜ MarkReturned s mark r ⌝ }
+{
+    let refusal = range::return_refusal(s, mark);
+    if refusal == 0 {
+        Changed {
+            refusal,
+            session: marking::returned(s, mark),
+        }
+    } else {
+        Changed {
+            refusal,
             session: s,
         }
     }

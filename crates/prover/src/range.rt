@@ -1,18 +1,22 @@
-// What refusals 5 to 8 judge.
+// What refusals 5 to 8, 17 and 18 judge.
 use super::Flats;
 use super::Held;
 use super::Implications;
+use super::Mark;
+use super::Marks;
 use super::Session;
 use super::Steps;
 use super::Worlds;
+use super::marking;
 use atoms::AtomSet;
 ghost use mathlib.Core.Path.{_≡_};
 ghost use mathlib.Core.Bool.{not, _&&_};
 ghost use lib.Dec.{leb, eqb};
 ghost use Rattle.ipl.specs.Clause.{bot};
 ghost use Rattle.ipl.specs.Range.{flatTable};
-ghost use Rattle.prover.specs.Calls.{flatOf, flatNumber, implicationNumber, goalNumber};
-ghost use Rattle.prover.specs.InRange.{flatsInRange, implicationsInRange, stepsInRange, worldsInRange, heldInRange, inRange};
+ghost use Rattle.prover.specs.State.{markOf};
+ghost use Rattle.prover.specs.Calls.{flatOf, flatNumber, implicationNumber, goalNumber, markNumber, returnNumber};
+ghost use Rattle.prover.specs.InRange.{flatsInRange, implicationsInRange, stepsInRange, worldsInRange, heldInRange, markInRange, marksInRange, inRange};
 
 fn flats_in_range(t: Flats, n: u8) -> bool
     ensures { λ r. ⌜ r ≡ flatsInRange n t ⌝ }
@@ -88,6 +92,37 @@ fn held_in_range(h: Held, n: u8) -> bool
     }
 }
 
+fn mark_in_range(m: Mark, flats: usize, implications: usize, steps: usize) -> bool
+    ensures { λ r. ⌜ r ≡ markInRange flats implications steps (markOf m) ⌝ }
+{
+    if ipl::MARKS <= m.number as usize {
+        return false;
+    }
+    if flats < m.flats {
+        return false;
+    }
+    if implications < m.implications {
+        return false;
+    }
+    m.steps <= steps
+}
+
+fn marks_in_range(t: Marks, flats: usize, implications: usize, steps: usize) -> bool
+    ensures { λ r. ⌜ r ≡ marksInRange flats implications steps t ⌝ }
+{
+    if ipl::MARKS < t.count {
+        return false;
+    }
+    let mut i = 0;
+    while i < t.count {
+        if !mark_in_range(t.rows[i], flats, implications, steps) {
+            return false;
+        }
+        i += 1;
+    }
+    true
+}
+
 // The opposite of refusal 5.
 pub fn in_range(s: Session) -> bool
     ensures { λ r. ⌜ r ≡ inRange s ⌝ }
@@ -110,7 +145,10 @@ pub fn in_range(s: Session) -> bool
         return false;
     }
     let held = s.held;
-    held_in_range(held, n)
+    if !held_in_range(held, n) {
+        return false;
+    }
+    marks_in_range(s.marks, s.flats.count, implications.count, s.steps.count)
 }
 
 // The number of the refusal that a flat clause meets, or 0.
@@ -167,4 +205,32 @@ pub fn goal_refusal(s: Session, goal: u8) -> u8
         return 5;
     }
     if ipl::atom_or_bottom(s.n, goal) { 0 } else { 6 }
+}
+
+// The number of the refusal that setting a mark meets, or 0.
+pub fn mark_refusal(s: Session, mark: u8) -> u8
+    ensures { λ r. ⌜ r ≡ markNumber s mark ⌝ }
+{
+    if !in_range(s) {
+        return 5;
+    }
+    if (mark as usize) < ipl::MARKS { 0 } else { 17 }
+}
+
+// The number of the refusal that a return to a mark meets, or 0.
+pub fn return_refusal(s: Session, mark: u8) -> u8
+    ensures { λ r. ⌜ r ≡ returnNumber s mark ⌝ }
+{
+    if !in_range(s) {
+        return 5;
+    }
+    if ipl::MARKS <= mark as usize {
+        return 17;
+    }
+    let t = s.marks;
+    if marking::place_of(t, mark) < t.count {
+        0
+    } else {
+        18
+    }
 }

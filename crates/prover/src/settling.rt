@@ -47,6 +47,7 @@ fn with_verdict(
 {
     let flats = s.flats;
     let implications = s.implications;
+    let marks = s.marks;
     let session = Session {
         n: s.n,
         flats,
@@ -55,6 +56,7 @@ fn with_verdict(
         worlds,
         total: total_after(s.total, questions),
         held,
+        marks,
     };
     Answered { verdict, session }
 }

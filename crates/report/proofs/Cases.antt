@@ -39,7 +39,8 @@ unfolding ascii decimalWithin decimal figures stepLine worldLine refusal validRe
     reader.finish reader.readToken reader.result reader.reading sameLeaf leafAt withLeaf withCompound withTree nodes named
     naming.letterCount naming.atomsFrom naming.atomsOf naming.setOf naming.clause naming.partCalls naming.callsFrom calls
     atomCount naming.textBook naming.goalOf book.countInRange book.opened book.flatsFull book.flatRefusal
-    book.implicationRefusal book.goalRefusal book.answer book.numberOf book.refusal book.stepsAfter book.taken book.next book.after
+    book.implicationRefusal book.additionRefusal book.goalRefusal book.answer book.numberOf book.refusal book.added book.stepsAfter
+    book.taken book.next book.after
     fixed.clauseOf fixed.known fixed.firstAt fixed.firstUnrealized fixed.isNone fixed.dropOne fixed.dropFrom fixed.begin
     fixed.stepAt fixed.resolve fixed.look fixed.goOn fixed.turnWith fixed.turn fixed.run fixed.search counters least ask
     orElse atomOrBot setInRange flatInRange implicationInRange one satisfies closing closings beyond realizes learned all

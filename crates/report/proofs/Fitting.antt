@@ -100,13 +100,13 @@ goal-number k g = by-cond (λ (x : ℕ). x ≤ 6) (atomOrBot (k .n) g) 0 6 (λ _
 
 module _ (k : Book) (g total : ℕ) (r : Reached k) where
   few : k .n < 10 ^ 20
-  few = omega (arith, r .well-formed .few, limit-small)
+  few = omega (arith, r .rows .well-formed .few, limit-small)
 
   outcome-fits : (o : Outcome) → OutcomeRight (k .n) (k .flats) (k .implications) g (k .steps) o → Fits o → Ended o → length (printedEnd (k .n) total o) ≤ longest
   unfolding printedEnd validReport refutedReport ascii longest
   outcome-fits (valid end) right fits e =
       let q = totalAfter total (end .questions) in
-      let lines = steps-length (k .n) (k .flats) (k .implications) [] (end .steps) (r .well-formed .few) (r .well-formed .implication-count) (right .grown .steps) in
+      let lines = steps-length (k .n) (k .flats) (k .implications) [] (end .steps) (r .rows .well-formed .few) (r .rows .well-formed .implication-count) (right .grown .steps) in
       omega (
         arith,
         length-append (ascii "valid\n" ++ figures (k .n) q (length (end .steps))) (each stepLine (end .steps)),
@@ -117,7 +117,7 @@ module _ (k : Book) (g total : ℕ) (r : Reached k) where
       )
   outcome-fits (refuted end) right fits e =
       let q = totalAfter total (end .questions) in
-      let lines = All-map (end .worlds) (λ w h. world-length w (set-short (k .n) w (r .well-formed .few) h)) (right .below) in
+      let lines = All-map (end .worlds) (λ w h. world-length w (set-short (k .n) w (r .rows .well-formed .few) h)) (right .below) in
       omega (
         arith,
         length-append (ascii "refuted\n" ++ figures (k .n) q (length (end .steps))) (each worldLine (end .worlds)),

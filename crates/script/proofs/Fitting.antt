@@ -6,14 +6,16 @@ use mathlib.Core.Option.{Option, none, some}
 use mathlib.Core.Path.{_≡_, ap, _∙_}
 use Prim.Native.Nat.{ℕ, _≤_}
 use native.Mathlib.Omega.{arith}
-use lib.Dec.{T, eqb, leb}
+use lib.Dec.{T, eqb, leb, ltb}
 use lib.ListN.{length, take, length-append}
 use lib.Seq.{take-all}
 use Rattle.atoms.proofs.Machine.{limit-small}
 use Rattle.atoms.proofs.Truth.{by-cond}
 use Rattle.ipl.specs.Clause.{bot, Flat, Implication}
 use Rattle.ipl.specs.Range.{implicationTable, atomOrBot, flatInRange, implicationInRange}
-use Rattle.ipl.specs.Book.{Book, Call, addFlat, addImplication, question, countInRange, openRefusal, flatsFull, flatRefusal, implicationRefusal, refusal}
+use Rattle.ipl.specs.Marks.{markTable, isSet}
+use Rattle.ipl.specs.Book.{Book, addFlat, addImplication, Call, add, question, setMark, returnTo, countInRange}
+use Rattle.ipl.specs.Book.{openRefusal, flatsFull, flatRefusal, implicationRefusal, additionRefusal, markRefusal, returnRefusal, refusal}
 use Rattle.ipl.proofs.Range.{AtomOrBot, atom-or-bot}
 use Rattle.prover.specs.State.{book}
 use Rattle.prover.specs.declared.Session.{Session}
@@ -50,16 +52,16 @@ whole {T} {r = r} fits room a = let b = begun a in b .same ∙ take-all r T (ome
 
 -- ---- changes
 
--- The numbers of refused changes have one digit.
+-- The numbers of refused changes have at most two digits.
 abbrev Small : ℕ → Type 0
-Small k = k ≤ 8
+Small k = k ≤ 18
 
 changed-fits : (k : ℕ) → Small k → Fits (changedLine k)
 unfolding ascii
 changed-fits k h =
     by-cond Fits (eqb k 0) (ascii "done\n") (refusedLine k)
     (λ _. omega arith)
-    (λ _. omega (arith, refusal-length false 0 0 k 0 (omega arith) (omega arith)))
+    (λ _. omega (arith, refusal-length false 1 0 k 0 (omega arith) (omega arith)))
 
 open-number : (n : ℕ) → Small (openRefusal n)
 unfolding openRefusal
@@ -83,6 +85,17 @@ implication-number k i =
     (λ _. omega arith)
     (λ _. by-cond Small full 8 0 (λ _. omega arith) (λ _. omega arith)))
 
+mark-number : (j : ℕ) → Small (markRefusal j)
+unfolding markRefusal
+mark-number j = by-cond Small (ltb j markTable) 0 17 (λ _. omega arith) (λ _. omega arith)
+
+return-number : (k : Book) (j : ℕ) → Small (returnRefusal k j)
+unfolding returnRefusal
+return-number k j =
+    by-cond Small (ltb j markTable) (cond (isSet j (k .marks)) 0 18) 17
+    (λ _. by-cond Small (isSet j (k .marks)) 0 18 (λ _. omega arith) (λ _. omega arith))
+    (λ _. omega arith)
+
 -- ---- texts
 
 goal-small : (t : Tree) → named (nodes t .table) ≤ mostNames → goalOf t ≤ 255
@@ -92,7 +105,7 @@ goal-small t few = go (atom-or-bot (textBook t .n) (goalOf t) in-range)
     in-range = rw (ap (λ (k : Book). k .n) (text-book t few)) (goal-in-range t few)
 
     go : AtomOrBot (textBook t .n) (goalOf t) → goalOf t ≤ 255
-    go (inl below) = omega (arith, text-reached t .well-formed .few, limit-small)
+    go (inl below) = omega (arith, text-reached t .rows .well-formed .few, limit-small)
     go (inr is-bot) = omega arith
 
 text-fits : (s : List ℕ) (j : text.Judgement) → text.Right s j → Fits (textLine j)
@@ -133,10 +146,12 @@ sheet-fits (some x) right =
 
 module _ (s : Session) (h : Stands s) where
   call-fits : (c : Call) → Fits (printedCall (stateOf s) c)
-  unfolding refusal longest
-  call-fits (addFlat f) = changed-fits (flatRefusal (book s) f) (flat-number (book s) f)
-  call-fits (addImplication i) = changed-fits (implicationRefusal (book s) i) (implication-number (book s) i)
+  unfolding refusal additionRefusal longest
+  call-fits (add (addFlat f)) = changed-fits (flatRefusal (book s) f) (flat-number (book s) f)
+  call-fits (add (addImplication i)) = changed-fits (implicationRefusal (book s) i) (implication-number (book s) i)
   call-fits (question g) = omega (arith, answer-fits (book s) g (s .total) (h .reached))
+  call-fits (setMark j) = changed-fits (markRefusal j) (mark-number j)
+  call-fits (returnTo j) = changed-fits (returnRefusal (book s) j) (return-number (book s) j)
 
   command-fits : (c : Command) → Fits (printedCommand (stateOf s) c)
   unfolding longest

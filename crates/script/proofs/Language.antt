@@ -16,9 +16,9 @@ use Rattle.script.specs.Words.{space, split, wordsOf, unindented}
 use Rattle.script.specs.Numbers.{bytesIn}
 use Rattle.script.specs.Command.{Command, Line, silent, readText, tellLength, writeSheet, checkSheet, command, noCall}
 use Rattle.script.specs.Command.{same, verbOf, argument, end, sheetArgument, commandBy, commandFrom, commandIn, hash, isBlank, isComment, longestCall, orNone, lineOf}
-use Rattle.script.specs.Language.{Says, opens, reads, reads-nothing, adds-flat, adds-implication, asks, tells, writes, checks, checks-nothing, CallsAreSaid, OneCall}
+use Rattle.script.specs.Language.{Says, opens, reads, reads-nothing, adds-flat, adds-implication, asks, sets-mark, returns-to, tells, writes, checks, checks-nothing, CallsAreSaid, OneCall}
 use Rattle.script.specs.declared.reading.Verb.{Verb}
-use Rattle.script.specs.declared.reading.Verb.the-variants.{Open, Text, Flat, Implication, Ask, Length, Sheet, Check, Other}
+use Rattle.script.specs.declared.reading.Verb.the-variants.{Open, Text, Flat, Implication, Ask, Mark, Return, Length, Sheet, Check, Other}
 use Rattle.script.proofs.Splitting.{words-unindented, first-word, indented, unindented-more, first, behind-first, second-word}
 use Rattle.script.proofs.Hexadecimal.{hex-bytes, bytes-hex}
 use Rattle.script.proofs.Verbs.{Named, named}
@@ -40,6 +40,8 @@ said-is {line} (reads-nothing spaces e) = by-unindented line (ascii "text") (ap 
 said-is (adds-flat L R left right e f g) = rw (e, f, g)
 said-is (adds-implication A B C a b c e f g h) = rw (e, f, g, h)
 said-is (asks G g e f) = rw (e, f)
+said-is (sets-mark K j e f) = rw (e, f)
+said-is (returns-to K j e f) = rw (e, f)
 said-is (tells e) = rw e
 said-is (writes e) = rw e
 said-is (checks b bytes h e) = rw (e, hex-bytes (b ∷ bytes) h)
@@ -129,6 +131,14 @@ module _ (line : List ℕ) where
       let g = argued _ _ ws c h in
       let z = ended _ (g .rest) c (g .further-is) in
       subst (Says line) (z .1) (asks (g .word) (g .value) (cc) (g .number-is))
+  said-by Mark verb ws c e v h =
+      let j = argued _ _ ws c h in
+      let z = ended _ (j .rest) c (j .further-is) in
+      subst (Says line) (z .1) (sets-mark (j .word) (j .value) (cc) (j .number-is))
+  said-by Return verb ws c e v h =
+      let j = argued _ _ ws c h in
+      let z = ended _ (j .rest) c (j .further-is) in
+      subst (Says line) (z .1) (returns-to (j .word) (j .value) (cc) (j .number-is))
   said-by Length verb ws c e v h = let z = ended tellLength ws c h in subst (Says line) (z .1) (tells (cc))
   said-by Sheet verb ws c e v h = let z = ended writeSheet ws c h in subst (Says line) (z .1) (writes (cc))
   said-by Check verb ws c e v h = said-sheet ws c (cc) h

@@ -1,7 +1,7 @@
 -- A session is the state of a script: what the contracts make of it, and what is printed, is what the definitions make of the state.
 use mathlib.Core.Bool.{false, cond}
 use mathlib.Core.List.{List}
-use mathlib.Core.Option.{none}
+use mathlib.Core.Option.{Option, none}
 use mathlib.Core.Path.{_≡_, refl, sym, ap, _∙_, subst}
 use Prim.Native.Nat.{ℕ}
 use native.Mathlib.Decide.{decLe}
@@ -9,15 +9,15 @@ use native.Mathlib.Omega.{arith}
 use lib.Dec.{eqb}
 use Rattle.ipl.specs.Search.{Outcome, valid, refuted, refused, unfinished}
 use Rattle.ipl.specs.Book as B
-use Rattle.ipl.specs.Book.{Book, Call, addFlat, addImplication, question, opened, refusal, taken, answer}
+use Rattle.ipl.specs.Book.{Book, addFlat, addImplication, Call, add, question, setMark, returnTo, opened, additionRefusal, refusal, taken, answer}
 use Rattle.ipl.proofs.Book.{Reached, opened-reached}
 use Rattle.prover.specs.State.{book}
-use Rattle.prover.specs.Calls.{number, NothingHeld, Opened, Added, Asked, AskedAs}
+use Rattle.prover.specs.Calls.{number, NothingHeld, VerdictKept, Opened, Changes, Asked, AskedAs}
 use Rattle.prover.specs.Demand as made
 use Rattle.prover.specs.declared.Session.{Session}
 use Rattle.prover.specs.declared.Changed.{Changed}
 use Rattle.prover.specs.declared.Answered.{Answered}
-use Rattle.prover.proofs.DemandThree.{added-kept, asked-as, call-kept}
+use Rattle.prover.proofs.DemandThree.{dropped-kept, set-kept, asked-as, call-kept}
 use Rattle.syntax.specs.Refusal.{Refused, line-1, line-2, line-3, line-4}
 use Rattle.syntax.specs.Judge as text
 use Rattle.syntax.proofs.Judge.{judge-right}
@@ -25,9 +25,9 @@ use Rattle.clausify.specs.Calls.{ClausifiedAs}
 use Rattle.clausify.specs.Demand.{bookOf}
 use Rattle.clausify.specs.declared.Clausified.{Clausified}
 use Rattle.clausify.proofs.TextBook.{text-reached}
-use Rattle.certify.specs.Held.{certificateHeld}
+use Rattle.certify.specs.Held.{Certificate, certificateHeld}
 use Rattle.certify.specs.Written.{lengthTold}
-use Rattle.certify.proofs.DemandTwo.{Standing, nothing-stands, added, called}
+use Rattle.certify.proofs.DemandTwo.{Standing, nothing-stands, dropped, mark-set, called}
 use Rattle.report.specs.Report.{reportBy}
 use Rattle.report.proofs.Printed.{answer-printed}
 use Rattle.script.specs.Command.{Command, openSession, readText, callBook, tellLength, writeSheet, checkSheet, Line, silent, command, noCall}
@@ -88,9 +88,10 @@ module _ (t : List ℕ) (r : Clausified) where
 
 -- ---- calls of the book
 
-added-total : (s : Session) (k : ℕ) (b : Book) (r : Changed) → Added s k b r → r .session .total ≡ s .total
-added-total s k b r a = elim (decLe k 0) [
-  | yes l ↦ a .nothing (omega arith) .same-total
+changed-total : (s : Session) (k : ℕ) (b : Book) (Rest : Session → Type 0) (r : Changed) → Changes s k b Rest r → (Rest (r .session) → r .session .total ≡ s .total)
+    → r .session .total ≡ s .total
+changed-total s k b Rest r a same = elim (decLe k 0) [
+  | yes l ↦ same (a .rest (omega arith))
   | no l ↦ ap (λ (u : Session). u .total) (a .unchanged (λ e. omega arith))
 ]
 
@@ -101,15 +102,27 @@ asked-total s g r (refused number) a = ap (λ (u : Session). u .total) (a .1)
 asked-total s g r unfinished a = absurd (a .0)
 
 module _ (s : Session) (h : Stands s) where
-  abbrev afterAddition : Call → State
-  afterAddition c = record { book = B.next (book s) c; questions = s .total; answered = cond (eqb (refusal (book s) c) 0) none (certificateHeld s (s .held)) }
+  abbrev x : Option Certificate
+  x = certificateHeld s (s .held)
 
-  added-reaches : (c : Call) (r : Changed) → Added s (number s (refusal (book s) c)) (taken (book s) c) r
-      → Reaches (afterAddition c) (changedLine (refusal (book s) c)) (r .session) (changedLine (r .refusal))
-  added-reaches c r a =
-      let x = certificateHeld s (s .held) in
-      reaches (ap changedLine (a .refused) ∙ rw (h .in-range)) (added-kept s (h .in-range) (h .reached) c r a .0) (added-total s (number s (refusal (book s) c)) (taken (book s) c) r a)
-      (added s x h c r a)
+  -- Additions and marks: the questions stay.
+  changed-reaches : (c : Call) (Rest : Session → Type 0) (r : Changed) → Changes s (number s (refusal (book s) c)) (taken (book s) c) Rest r
+      → (Rest (r .session) → r .session .total ≡ s .total) → book (r .session) ≡ B.next (book s) c → (y : Option Certificate) → Standing (r .session) y
+      → Reaches (record { book = B.next (book s) c; questions = s .total; answered = y }) (changedLine (refusal (book s) c)) (r .session) (changedLine (r .refusal))
+  changed-reaches c Rest r a same b y stands =
+      reaches (ap changedLine (a .refused) ∙ rw (h .in-range)) b (changed-total s (number s (refusal (book s) c)) (taken (book s) c) Rest r a same) stands
+
+  dropped-reaches : (c : Call) (r : Changed) → Changes s (number s (refusal (book s) c)) (taken (book s) c) (NothingHeld (s .total)) r
+      → Reaches (record { book = B.next (book s) c; questions = s .total; answered = cond (eqb (refusal (book s) c) 0) none x }) (changedLine (refusal (book s) c))
+      (r .session) (changedLine (r .refusal))
+  dropped-reaches c r a =
+      changed-reaches c (NothingHeld (s .total)) r a (λ n. n .same-total) (dropped-kept s (h .in-range) (h .reached) c r a .0) _ (dropped s x h c r a)
+
+  set-reaches : (j : ℕ) (r : Changed) → Changes s (number s (refusal (book s) (setMark j))) (taken (book s) (setMark j)) (VerdictKept s) r
+      → Reaches (record { book = B.next (book s) (setMark j); questions = s .total; answered = x }) (changedLine (refusal (book s) (setMark j)))
+      (r .session) (changedLine (r .refusal))
+  set-reaches j r a =
+      changed-reaches (setMark j) (VerdictKept s) r a (λ k. k .same-total) (set-kept s (h .in-range) (h .reached) j r a .0) x (mark-set s x h j r a)
 
   asked-reaches : (g : ℕ) (r : Answered) → Asked s g r
       → Reaches (next (stateOf s) (callBook (question g))) (printedCall (stateOf s) (question g)) (r .session) (reportBy (r .verdict) (r .session))
@@ -131,10 +144,12 @@ module _ (s : Session) (h : Stands s) where
 
   module _ {after : Session} {printed : List ℕ} where
     call-reaches : (c : Call) → CallDone s c after printed → Reaches (next (stateOf s) (callBook c)) (printedCall (stateOf s) c) after printed
-    unfolding refusal
-    call-reaches (addFlat f) (r, a, e, p) = same-reached e p (added-reaches (addFlat f) r a)
-    call-reaches (addImplication i) (r, a, e, p) = same-reached e p (added-reaches (addImplication i) r a)
+    unfolding refusal additionRefusal
+    call-reaches (add (addFlat f)) (r, a, e, p) = same-reached e p (dropped-reaches (add (addFlat f)) r a)
+    call-reaches (add (addImplication i)) (r, a, e, p) = same-reached e p (dropped-reaches (add (addImplication i)) r a)
     call-reaches (question g) (r, a, e, p) = same-reached e p (asked-reaches g r a)
+    call-reaches (setMark j) (r, a, e, p) = same-reached e p (set-reaches j r a)
+    call-reaches (returnTo j) (r, a, e, p) = same-reached e p (dropped-reaches (returnTo j) r a)
 
     unchanged : {text : List ℕ} → after ≡ s → printed ≡ text → Reaches (stateOf s) text after printed
     unchanged e p = record { prints = p; state = ap stateOf e; stands = subst Stands (sym e) h }

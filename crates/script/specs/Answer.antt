@@ -4,10 +4,9 @@ use mathlib.Core.List.{List, []}
 use mathlib.Core.Path.{_≡_}
 use Prim.Native.Nat.{ℕ}
 use lib.Dec.{eqb}
-use Rattle.ipl.specs.Book.{Call, addFlat, addImplication, question, taken}
-use Rattle.prover.specs.State.{book}
+use Rattle.ipl.specs.Book.{Call, add, question, setMark, returnTo}
 use Rattle.prover.specs.InRange.{inRange}
-use Rattle.prover.specs.Calls.{flatNumber, implicationNumber, Opened, Added, Asked}
+use Rattle.prover.specs.Calls.{Opened, Added, Asked, MarkSet, MarkReturned}
 use Rattle.prover.specs.declared.Session.{Session}
 use Rattle.prover.specs.declared.Changed.{Changed}
 use Rattle.prover.specs.declared.Answered.{Answered}
@@ -33,15 +32,17 @@ abbrev pub heldLine : Session → List ℕ
 heldLine s = cond (inRange s) (sheetLine (certificateHeld s (s .held))) (refusedLine 5)
 
 -- The call's own contract holds of some answer, the script goes on with its session, and this is printed of it.
+abbrev pub ChangeDone : (Changed → Type 0) → Session → List ℕ → Type 0
+ChangeDone Meets after printed = (r : Changed) × Meets r × (after ≡ r .session) × (printed ≡ changedLine (r .refusal))
+
 abbrev pub CallDone : Session → Call → Session → List ℕ → Type 0
-CallDone s (addFlat f) after printed =
-    (r : Changed) × Added s (flatNumber s f) (taken (book s) (addFlat f)) r × (after ≡ r .session) × (printed ≡ changedLine (r .refusal))
-CallDone s (addImplication i) after printed =
-    (r : Changed) × Added s (implicationNumber s i) (taken (book s) (addImplication i)) r × (after ≡ r .session) × (printed ≡ changedLine (r .refusal))
+CallDone s (add a) after printed = ChangeDone (Added s a) after printed
+CallDone s (setMark j) after printed = ChangeDone (MarkSet s j) after printed
+CallDone s (returnTo j) after printed = ChangeDone (MarkReturned s j) after printed
 CallDone s (question g) after printed = (r : Answered) × Asked s g r × (after ≡ r .session) × (printed ≡ reportBy (r .verdict) (r .session))
 
 abbrev pub CommandDone : Session → Command → Session → List ℕ → Type 0
-CommandDone s (openSession n) after printed = (r : Changed) × Opened n r × (after ≡ r .session) × (printed ≡ changedLine (r .refusal))
+CommandDone s (openSession n) after printed = ChangeDone (Opened n) after printed
 CommandDone s (readText t) after printed = (r : Clausified) × ClausifiedAs (text.judge t) r × (after ≡ r .session) × (printed ≡ clausifiedLine (r .refusal) (r .place) (r .goal))
 CommandDone s (callBook c) after printed = CallDone s c after printed
 CommandDone s tellLength after printed = (after ≡ s) × (printed ≡ lengthLine (lengthTold s))

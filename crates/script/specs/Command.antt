@@ -7,14 +7,14 @@ use lib.Dec.{eqb, leb}
 use lib.ListN.{length, drop}
 use Rattle.atoms.specs.Sets.{limit}
 use Rattle.ipl.specs.Lists.{all}
-use Rattle.ipl.specs.Book.{Call, addFlat, addImplication, question}
+use Rattle.ipl.specs.Book.{addFlat, addImplication, Call, add, question, setMark, returnTo}
 use Rattle.text.specs.Text.{ascii}
 use Rattle.script.specs.Words.{space, wordsOf, unindented}
 use Rattle.script.specs.Numbers.{numberBelow, bytesIn}
 use Rattle.script.specs.declared.reading.Verb.{Verb}
-use Rattle.script.specs.declared.reading.Verb.the-variants.{Open, Text, Flat, Implication, Ask, Length, Sheet, Check, Other}
+use Rattle.script.specs.declared.reading.Verb.the-variants.{Open, Text, Flat, Implication, Ask, Mark, Return, Length, Sheet, Check, Other}
 
--- What a line asks for: the three calls of the book, and those beside them.
+-- What a line asks for: the calls of the book, and those beside them.
 pub data Command : Type 0 where
   openSession : ℕ → Command
   readText : List ℕ → Command
@@ -43,7 +43,10 @@ verbOf w =
     (cond (same w (ascii "text")) Text
     (cond (same w (ascii "flat")) Flat
     (cond (same w (ascii "implication")) Implication
-    (cond (same w (ascii "ask")) Ask (cond (same w (ascii "length")) Length (cond (same w (ascii "sheet")) Sheet (cond (same w (ascii "check")) Check Other)))))))
+    (cond (same w (ascii "ask")) Ask
+    (cond (same w (ascii "mark")) Mark
+    (cond (same w (ascii "return")) Return
+    (cond (same w (ascii "length")) Length (cond (same w (ascii "sheet")) Sheet (cond (same w (ascii "check")) Check Other)))))))))
 
 -- "One over 255 where a byte belongs, or a set over 2^64 - 1, is no number."
 abbrev pub byteIn : List ℕ → Option ℕ
@@ -74,10 +77,12 @@ abbrev pub commandBy : Verb → List ℕ → List (List ℕ) → Option Command
 commandBy Open rest ws = argument byteIn (λ n. end (openSession n)) ws
 -- "All after the first space behind `text`, as it stands, to the line's end; `text` alone is the empty text."
 commandBy Text rest ws = some (readText (drop 1 rest))
-commandBy Flat rest ws = argument setIn (λ left. argument setIn (λ right. end (callBook (addFlat (record { left = left; right = right }))))) ws
+commandBy Flat rest ws = argument setIn (λ left. argument setIn (λ right. end (callBook (add (addFlat (record { left = left; right = right })))))) ws
 commandBy Implication rest ws =
-    argument byteIn (λ a. argument byteIn (λ b. argument byteIn (λ c. end (callBook (addImplication (record { a = a; b = b; c = c })))))) ws
+    argument byteIn (λ a. argument byteIn (λ b. argument byteIn (λ c. end (callBook (add (addImplication (record { a = a; b = b; c = c }))))))) ws
 commandBy Ask rest ws = argument byteIn (λ g. end (callBook (question g))) ws
+commandBy Mark rest ws = argument byteIn (λ j. end (callBook (setMark j))) ws
+commandBy Return rest ws = argument byteIn (λ j. end (callBook (returnTo j))) ws
 commandBy Length rest ws = end tellLength ws
 commandBy Sheet rest ws = end writeSheet ws
 commandBy Check rest ws = sheetArgument ws

@@ -6,7 +6,7 @@ use mathlib.Core.Path.{_≡_}
 use Prim.Native.Nat.{ℕ, _≤_, _<_}
 use lib.ListN.{length, replicate}
 use Rattle.ipl.specs.Lists.{All}
-use Rattle.ipl.specs.Book.{addFlat, addImplication, question}
+use Rattle.ipl.specs.Book.{addFlat, addImplication, add, question, setMark, returnTo}
 use Rattle.text.specs.Text.{ascii, hex}
 use Rattle.script.specs.Words.{space, wordsOf}
 use Rattle.script.specs.Command.{Command, openSession, readText, callBook, tellLength, writeSheet, checkSheet, byteIn, setIn, command, longestCall, lineOf}
@@ -20,12 +20,15 @@ pub data Says (line : List ℕ) : Command → Type 0 where
   reads-nothing : (spaces : ℕ) → line ≡ replicate spaces space ++ ascii "text" → Says line (readText [])
   -- `flat LEFT RIGHT`
   adds-flat : (L R : List ℕ) (left right : ℕ) → wordsOf line ≡ ascii "flat" ∷ L ∷ R ∷ [] → setIn L ≡ some left → setIn R ≡ some right
-      → Says line (callBook (addFlat (record { left = left; right = right })))
+      → Says line (callBook (add (addFlat (record { left = left; right = right }))))
   -- `implication A B C`
   adds-implication : (A B C : List ℕ) (a b c : ℕ) → wordsOf line ≡ ascii "implication" ∷ A ∷ B ∷ C ∷ [] → byteIn A ≡ some a → byteIn B ≡ some b → byteIn C ≡ some c
-      → Says line (callBook (addImplication (record { a = a; b = b; c = c })))
+      → Says line (callBook (add (addImplication (record { a = a; b = b; c = c }))))
   -- `ask G`
   asks : (G : List ℕ) (g : ℕ) → wordsOf line ≡ ascii "ask" ∷ G ∷ [] → byteIn G ≡ some g → Says line (callBook (question g))
+  -- `mark K`, `return K`
+  sets-mark : (K : List ℕ) (j : ℕ) → wordsOf line ≡ ascii "mark" ∷ K ∷ [] → byteIn K ≡ some j → Says line (callBook (setMark j))
+  returns-to : (K : List ℕ) (j : ℕ) → wordsOf line ≡ ascii "return" ∷ K ∷ [] → byteIn K ≡ some j → Says line (callBook (returnTo j))
   -- `length`, `sheet`
   tells : wordsOf line ≡ ascii "length" ∷ [] → Says line tellLength
   writes : wordsOf line ≡ ascii "sheet" ∷ [] → Says line writeSheet

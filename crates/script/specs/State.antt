@@ -6,7 +6,7 @@ use Prim.Native.Nat.{ℕ}
 use lib.Dec.{eqb}
 use Rattle.ipl.specs.Search.{Outcome, valid, refuted, refused, unfinished}
 use Rattle.ipl.specs.Book as B
-use Rattle.ipl.specs.Book.{Book, Call, addFlat, addImplication, question, opened, openRefusal, refusal, answer}
+use Rattle.ipl.specs.Book.{Book, Call, add, question, setMark, returnTo, opened, openRefusal, refusal, answer}
 use Rattle.prover.specs.Calls.{totalAfter}
 use Rattle.syntax.specs.Judge as text
 use Rattle.clausify.specs.Naming.{goalOf}
@@ -44,9 +44,10 @@ questionsAfter total unfinished = total
 
 -- "Only what is asked is counted."
 abbrev pub totalFor : State → Call → ℕ
-totalFor σ (addFlat f) = σ .questions
-totalFor σ (addImplication i) = σ .questions
+totalFor σ (add a) = σ .questions
 totalFor σ (question g) = questionsAfter (σ .questions) (answer (σ .book) g)
+totalFor σ (setMark j) = σ .questions
+totalFor σ (returnTo j) = σ .questions
 
 abbrev pub next : State → Command → State
 next σ (openSession n) = fresh (opened n)
@@ -88,9 +89,10 @@ sheetLine none = refusedLine 9
 sheetLine (some x) = digitsLine (bytesOf x)
 
 abbrev pub printedCall : State → Call → List ℕ
-printedCall σ (addFlat f) = changedLine (refusal (σ .book) (addFlat f))
-printedCall σ (addImplication i) = changedLine (refusal (σ .book) (addImplication i))
+printedCall σ (add a) = changedLine (refusal (σ .book) (add a))
 printedCall σ (question g) = printedEnd (σ .book .n) (σ .questions) (answer (σ .book) g)
+printedCall σ (setMark j) = changedLine (refusal (σ .book) (setMark j))
+printedCall σ (returnTo j) = changedLine (refusal (σ .book) (returnTo j))
 
 abbrev pub printedCommand : State → Command → List ℕ
 printedCommand σ (openSession n) = changedLine (openRefusal n)

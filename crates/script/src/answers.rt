@@ -9,7 +9,7 @@ use prover::Session;
 ghost use mathlib.Core.List.{_++_};
 ghost use Prim.Native.Nat.{_≤_};
 ghost use lib.ListN.{length, drop};
-ghost use Rattle.ipl.specs.Book.{addFlat, addImplication, question};
+ghost use Rattle.ipl.specs.Book.{addFlat, addImplication, add, question, setMark, returnTo};
 ghost use Rattle.prover.specs.Calls.{flatOf};
 ghost use Rattle.certificate.specs.Judge.{judge};
 ghost use Rattle.certify.specs.Written.{lengthTold};
@@ -120,7 +120,7 @@ fn read_text(line: &[u8], start: usize, output: &mut [u8]) -> Answer
 }
 
 fn add_flat(s: Session, left: AtomSet, right: AtomSet, output: &mut [u8]) -> Answer
-    ensures { λ r. ⌜ Writes (CommandDone s (callBook (addFlat (flatOf left right)))) (now (output .entry)) (now (output .exit)) r ⌝ }
+    ensures { λ r. ⌜ Writes (CommandDone s (callBook (add (addFlat (flatOf left right))))) (now (output .entry)) (now (output .exit)) r ⌝ }
 {
     let r = prover::add_flat(s, left, right);
     let session = r.session;
@@ -131,7 +131,7 @@ fn add_flat(s: Session, left: AtomSet, right: AtomSet, output: &mut [u8]) -> Ans
 }
 
 fn add_implication(s: Session, a: u8, b: u8, c: u8, output: &mut [u8]) -> Answer
-    ensures { λ r. ⌜ Writes (CommandDone s (callBook (addImplication (record { a = a; b = b; c = c })))) (now (output .entry)) (now (output .exit)) r ⌝ }
+    ensures { λ r. ⌜ Writes (CommandDone s (callBook (add (addImplication (record { a = a; b = b; c = c }))))) (now (output .entry)) (now (output .exit)) r ⌝ }
 {
     let r = prover::add_implication(s, a, b, c);
     let session = r.session;
@@ -150,6 +150,28 @@ fn ask(s: Session, goal: u8, output: &mut [u8]) -> Answer
     Answer {
         session,
         length: report::write(output, verdict, session),
+    }
+}
+
+fn set_mark(s: Session, mark: u8, output: &mut [u8]) -> Answer
+    ensures { λ r. ⌜ Writes (CommandDone s (callBook (setMark mark))) (now (output .entry)) (now (output .exit)) r ⌝ }
+{
+    let r = prover::set_mark(s, mark);
+    let session = r.session;
+    Answer {
+        session,
+        length: write_changed(r.refusal, output),
+    }
+}
+
+fn return_to(s: Session, mark: u8, output: &mut [u8]) -> Answer
+    ensures { λ r. ⌜ Writes (CommandDone s (callBook (returnTo mark))) (now (output .entry)) (now (output .exit)) r ⌝ }
+{
+    let r = prover::return_to(s, mark);
+    let session = r.session;
+    Answer {
+        session,
+        length: write_changed(r.refusal, output),
     }
 }
 
@@ -173,6 +195,8 @@ pub fn answer_line(s: Session, number: u64, line: &[u8], p: Pending, output: &mu
         Call::Flat(left, right) => add_flat(s, left, right, output),
         Call::Implication(a, b, c) => add_implication(s, a, b, c, output),
         Call::Ask(goal) => ask(s, goal, output),
+        Call::Mark(number) => set_mark(s, number, output),
+        Call::Return(number) => return_to(s, number, output),
         Call::Length => Answer {
             session: s,
             length: write_length(s, output),

@@ -1,5 +1,6 @@
 // From a line's bytes to a call.
 use super::numbers;
+use super::numbers::Byte;
 use super::words;
 use atoms::AtomSet;
 ghost use mathlib.Core.Path.{_≡_};
@@ -7,7 +8,7 @@ ghost use Prim.Native.Nat.{_≤_};
 ghost use lib.ListN.{length};
 ghost use Rattle.script.specs.Command.{byteIn, setIn, verbOf};
 ghost use Rattle.script.specs.Places.{byteTaken, setTaken, Takes};
-ghost use Rattle.script.specs.Reading.{Completes, Arguments, ReadAs};
+ghost use Rattle.script.specs.Reading.{OneByte, IsLast, Completes, Arguments, ReadAs};
 
 // The most bytes of a call, without the byte 10 that ends its line.
 pub const MOST_BYTES: usize = 32768;
@@ -18,6 +19,8 @@ pub enum Verb {
     Flat,
     Implication,
     Ask,
+    Mark,
+    Return,
     Length,
     Sheet,
     Check,
@@ -33,6 +36,8 @@ pub enum Call {
     Flat(AtomSet, AtomSet),
     Implication(u8, u8, u8),
     Ask(u8),
+    Mark(u8),
+    Return(u8),
     Length,
     Sheet,
     Check(usize, usize),
@@ -67,6 +72,12 @@ fn verb_of(word: &[u8]) -> Verb
     if check::same(word, b"ask") {
         return Verb::Ask;
     }
+    if check::same(word, b"mark") {
+        return Verb::Mark;
+    }
+    if check::same(word, b"return") {
+        return Verb::Return;
+    }
     if check::same(word, b"length") {
         return Verb::Length;
     }
@@ -90,8 +101,8 @@ fn byte_argument(line: &[u8], from: usize) -> ByteArgument
         return ByteArgument::None;
     }
     match numbers::byte_in(&line[start..end]) {
-        numbers::Byte::Is(x) => ByteArgument::Is(x, end),
-        numbers::Byte::None => ByteArgument::None,
+        Byte::Is(x) => ByteArgument::Is(x, end),
+        Byte::None => ByteArgument::None,
     }
 }
 
@@ -111,26 +122,50 @@ fn set_argument(line: &[u8], from: usize) -> SetArgument
     }
 }
 
+// Whether no word follows.
+fn is_last(line: &[u8], from: usize) -> bool
+    requires { ⌜ from ≤ length (now line) ⌝ }
+    ensures { λ r. ⌜ IsLast (now (line .entry)) from r ⌝ }
+{
+    let word = words::next(line, from);
+    word.start == word.end
+}
+
 // The call where no word follows.
 fn if_last(line: &[u8], from: usize, call: Call) -> Call
     requires { ⌜ from ≤ length (now line) ⌝ }
     ensures { λ r. ⌜ Completes (now (line .entry)) from call r ⌝ }
 {
-    let word = words::next(line, from);
-    if word.start == word.end {
-        return call;
+    if is_last(line, from) {
+        call
+    } else {
+        Call::NoCall
     }
-    Call::NoCall
+}
+
+// The byte that is the only argument, if it is.
+fn one_byte(line: &[u8], from: usize) -> Byte
+    requires { ⌜ from ≤ length (now line) ⌝ }
+    ensures { λ r. ⌜ OneByte (now (line .entry)) from r ⌝ }
+{
+    let ByteArgument::Is(x, end) = byte_argument(line, from) else {
+        return Byte::None;
+    };
+    if is_last(line, end) {
+        Byte::Is(x)
+    } else {
+        Byte::None
+    }
 }
 
 fn open(line: &[u8], from: usize) -> Call
     requires { ⌜ from ≤ length (now line) ⌝ }
     ensures { λ r. ⌜ Arguments Verb.Open (now (line .entry)) from r ⌝ }
 {
-    let ByteArgument::Is(n, end) = byte_argument(line, from) else {
-        return Call::NoCall;
-    };
-    if_last(line, end, Call::Open(n))
+    match one_byte(line, from) {
+        Byte::Is(n) => Call::Open(n),
+        Byte::None => Call::NoCall,
+    }
 }
 
 // Behind the word and one space, or at the line's end.
@@ -177,10 +212,30 @@ fn ask(line: &[u8], from: usize) -> Call
     requires { ⌜ from ≤ length (now line) ⌝ }
     ensures { λ r. ⌜ Arguments Verb.Ask (now (line .entry)) from r ⌝ }
 {
-    let ByteArgument::Is(goal, end) = byte_argument(line, from) else {
-        return Call::NoCall;
-    };
-    if_last(line, end, Call::Ask(goal))
+    match one_byte(line, from) {
+        Byte::Is(goal) => Call::Ask(goal),
+        Byte::None => Call::NoCall,
+    }
+}
+
+fn mark(line: &[u8], from: usize) -> Call
+    requires { ⌜ from ≤ length (now line) ⌝ }
+    ensures { λ r. ⌜ Arguments Verb.Mark (now (line .entry)) from r ⌝ }
+{
+    match one_byte(line, from) {
+        Byte::Is(number) => Call::Mark(number),
+        Byte::None => Call::NoCall,
+    }
+}
+
+fn return_to(line: &[u8], from: usize) -> Call
+    requires { ⌜ from ≤ length (now line) ⌝ }
+    ensures { λ r. ⌜ Arguments Verb.Return (now (line .entry)) from r ⌝ }
+{
+    match one_byte(line, from) {
+        Byte::Is(number) => Call::Return(number),
+        Byte::None => Call::NoCall,
+    }
 }
 
 // No word is the empty sheet.
@@ -208,6 +263,8 @@ fn call_of(verb: Verb, line: &[u8], from: usize) -> Call
         Verb::Flat => flat(line, from),
         Verb::Implication => implication(line, from),
         Verb::Ask => ask(line, from),
+        Verb::Mark => mark(line, from),
+        Verb::Return => return_to(line, from),
         Verb::Length => if_last(line, from, Call::Length),
         Verb::Sheet => if_last(line, from, Call::Sheet),
         Verb::Check => check_sheet(line, from),

@@ -23,8 +23,21 @@ returns-3 c =
 
 returns-4 : tie.Need-returns-4
 returns-4 c =
-    let given = c .before .before .before .before .args in
-    rw (ne-eqb (given .kind) 0 (λ e. omega arith), ne-eqb (given .kind) 1 (λ e. omega arith), ne-eqb (given .kind) 2 (λ e. omega arith)) (c .ask .ensures)
+    let given = c .before .before .before .before .before .args in
+    rw (ne-eqb (given .kind) 0 (λ e. omega arith), ne-eqb (given .kind) 1 (λ e. omega arith), ne-eqb (given .kind) 2 (λ e. omega arith), eq-eqb (given .kind) 3 (omega arith))
+    (c .set-mark .ensures)
+
+returns-5 : tie.Need-returns-5
+returns-5 c =
+    let kind = c .before .before .before .before .before .before .args .kind in
+    rw (ne-eqb kind 0 (λ e. omega arith), ne-eqb kind 1 (λ e. omega arith), ne-eqb kind 2 (λ e. omega arith), ne-eqb kind 3 (λ e. omega arith), eq-eqb kind 4 (omega arith))
+    (c .return-to .ensures)
+
+returns-6 : tie.Need-returns-6
+returns-6 c =
+    let kind = c .before .before .before .before .before .before .args .kind in
+    rw (ne-eqb kind 0 (λ e. omega arith), ne-eqb kind 1 (λ e. omega arith), ne-eqb kind 2 (λ e. omega arith), ne-eqb kind 3 (λ e. omega arith), ne-eqb kind 4 (λ e. omega arith))
+    (c .ask .ensures)
 
 pub call-spec : {M : Type 1} → statement M
 call-spec =
@@ -34,7 +47,11 @@ call-spec =
     (λ c κs. search needs)
     (λ c κs. search needs)
     (λ c κs. search needs)
+    (λ c κs. search needs)
+    (λ c κs. search needs)
     returns
     returns-2
     returns-3
-    returns-4)
+    returns-4
+    returns-5
+    returns-6)

@@ -12,7 +12,7 @@ write-requires c κs = (c .before .before .before .before .before .pre, row-coun
 
 returns : tie.Need-returns
 returns c =
-    let written = c .before .before .before .before .before in
+    let written = c .before .before .before .before .before .before in
     let fresh = written .before .before .before .before .«open» in
     let counted = written .before .before .before .before .before in
     let none = fresh .ensures .nothing in (

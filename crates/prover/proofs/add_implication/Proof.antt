@@ -1,6 +1,6 @@
 -- Refused, or with one implication more.
 use mathlib.Core.Path.{sym, _∙_}
-use Rattle.prover.proofs.Refusals.{addition-taken, addition-refused}
+use Rattle.prover.proofs.Refusals.{change-taken, change-refused}
 use borrow.Author.Needs.{needs}
 use Rattle.prover.proofs.add_implication.Statement.{statement}
 use Rattle.prover.proofs.add_implication.Tie as tie
@@ -9,10 +9,10 @@ with-implication-requires : tie.Need-with-implication-requires
 with-implication-requires c κs = sym (c .before .implication-refusal .ensures) ∙ c .if1 .taken
 
 returns : tie.Need-returns
-returns c = addition-taken _ _ _ _ (c .before .before .implication-refusal .ensures) (c .before .if1 .taken) _ (c .with-implication .ensures)
+returns c = change-taken _ _ _ _ _ (c .before .before .implication-refusal .ensures) (c .before .if1 .taken) _ (c .with-implication .ensures)
 
 returns-2 : tie.Need-returns-2
-returns-2 c = addition-refused _ _ _ _ (c .before .implication-refusal .ensures) (c .if1 .left)
+returns-2 c = change-refused _ _ _ _ _ (c .before .implication-refusal .ensures) (c .if1 .left)
 
 pub add-implication-spec : {M : Type 1} → statement M
 add-implication-spec =

@@ -12,7 +12,7 @@ pub type Tally = BTreeMap<String, usize>;
 /// All that a script can meet. Refusal 10 is of lent bytes, and a script lends none.
 pub fn kinds() -> Vec<String> {
     const WORDS: [&str; 8] = ["nothing", "no call", "done", "goal", "length", "sheet", "valid", "refuted"];
-    let refused = (1..=16).filter(|&number| number != 10).map(|number| format!("refused {number}"));
+    let refused = (1..=18).filter(|&number| number != 10).map(|number| format!("refused {number}"));
     let accepted = ["accepted valid", "accepted refuted"].map(String::from);
     WORDS.map(String::from).into_iter().chain(accepted).chain(refused).collect()
 }
@@ -69,17 +69,49 @@ impl<'a> Author<'a> {
         }
     }
 
-    /// More clauses than the tables hold.
+    /// More clauses than the tables hold, with marks on the way, and then returns to them.
     pub fn full_tables(&mut self) {
         let atoms = 1 + self.random.below(4);
         self.write(format!("open {atoms}"));
         for _ in 0..700 {
-            let line = match self.random.below(50) {
-                0 => self.question(),
-                1..=12 => self.implication(),
-                _ => self.flat(),
-            };
+            let line = self.clause_or(&["ask", "mark"]);
             self.write(line);
+        }
+        for _ in 0..300 {
+            let line = self.clause_or(&["ask", "mark", "return"]);
+            self.write(line);
+        }
+    }
+
+    /// A clause; once in so many times one of these calls.
+    fn clause_or(&mut self, calls: &[&str]) -> String {
+        match self.random.below(50) {
+            0 => match *self.random.pick(calls) {
+                "ask" => self.question(),
+                word => self.mark(word),
+            },
+            1..=12 => self.implication(),
+            _ => self.flat(),
+        }
+    }
+
+    /// Marks, returns to them, and all that they remember, on one session of at most eight atoms, which never needs too many
+    /// worlds or steps.
+    pub fn marks(&mut self, count: usize) {
+        let atoms = 1 + self.random.below(8);
+        self.write(format!("open {atoms}"));
+        for _ in 0..count {
+            let line = match self.random.below(12) {
+                0..=1 => self.mark("mark"),
+                2..=3 => self.mark("return"),
+                4..=5 => self.flat(),
+                6..=7 => self.implication(),
+                8..=9 => self.question(),
+                10 => self.random.pick(&["length", "sheet"]).to_string(),
+                _ => format!("check {}", hexadecimal(&self.sheet)),
+            };
+            let answer = self.write(line);
+            assert!(!["refused 11\n", "refused 12\n"].contains(&&answer[..]), "over {atoms} atoms: {answer}");
         }
     }
 
@@ -142,7 +174,7 @@ impl<'a> Author<'a> {
     }
 
     fn line(&mut self) -> Vec<u8> {
-        match self.random.below(24) {
+        match self.random.below(27) {
             0..=5 => self.flat().into(),
             6..=9 => self.implication().into(),
             10..=14 => self.question().into(),
@@ -150,6 +182,8 @@ impl<'a> Author<'a> {
             16 => b"sheet".into(),
             17..=19 => self.check().into(),
             20 => self.random.pick(&["", "  ", "# ask 0", "#"]).as_bytes().into(),
+            21 => self.mark("mark").into(),
+            22 => self.mark("return").into(),
             _ => self.damaged_line(),
         }
     }
@@ -167,6 +201,12 @@ impl<'a> Author<'a> {
     fn question(&mut self) -> String {
         let goal = self.atom(5);
         self.words("ask", &[goal])
+    }
+
+    /// A call with one of the first marks, seldom with another number.
+    fn mark(&mut self, word: &str) -> String {
+        let number = if self.random.one_in(12) { self.random.below(270) } else { self.random.below(4) };
+        self.words(word, &[number as u64])
     }
 
     /// The word and its numbers, seldom with more spaces or zeros than they need.
@@ -216,10 +256,11 @@ impl<'a> Author<'a> {
     /// A line with a byte changed, put in or taken out, or its end cut off.
     fn damaged_line(&mut self) -> Vec<u8> {
         const BYTES: &[u8] = b" 0129aA#-\t\r\x00\x80\xff";
-        let mut line = match self.random.below(4) {
+        let mut line = match self.random.below(5) {
             0 => self.flat(),
             1 => self.implication(),
             2 => self.question(),
+            3 => self.mark("mark"),
             _ => self.check(),
         }
         .into_bytes();

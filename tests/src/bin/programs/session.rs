@@ -81,6 +81,7 @@ impl Scripts {
         };
         write(150, &|author, calls| author.calls(calls, 7, 50));
         write(130, &|author, calls| author.calls(calls, 64, 25));
+        write(1_000, &|author, calls| author.marks(calls / 8));
         write(8, &|author, _| author.full_tables());
         write(8, &|author, _| author.many_worlds());
         write(2, &|author, _| author.many_steps());

@@ -2,8 +2,8 @@
 use mathlib.Core.Path.{ap₂, _∙_}
 use mathlib.Core.List.{List}
 use Rattle.ipl.specs.Clause.{Flat, Implication}
-use Rattle.ipl.specs.Book.{taken}
-use Rattle.prover.specs.State.{stepsOf}
+use Rattle.ipl.specs.Book.{added, taken}
+use Rattle.prover.specs.State.{stepsOf, marksOf}
 use Rattle.prover.proofs.Refusals.{closing-fits, implication-room}
 use borrow.Author.Needs.{needs}
 use Rattle.prover.proofs.additions.with_implication.Statement.{statement}
@@ -16,13 +16,13 @@ with-implication-row-requires : tie.Need-with-implication-row-requires
 with-implication-row-requires c κs = implication-room _ _ (c .before .pre)
 
 returns : tie.Need-returns
-unfolding taken
+unfolding taken added
 returns c =
     let s = c .before .before .before in (
-      c .with-clauses .ensures .0
-          ∙ ap₂ (λ (F : List Flat) (X : List Implication). record { n = s .args .s .n; flats = F; implications = X; steps = stepsOf (s .args .s .steps) })
+      c .with-rows .ensures .0
+          ∙ ap₂ (λ (F : List Flat) (X : List Implication). record { n = s .args .s .n; flats = F; implications = X; steps = stepsOf (s .args .s .steps); marks = marksOf (s .args .s .marks) })
           (c .before .before .with-closing .ensures (s .args .a)) (c .before .with-implication-row .ensures),
-      c .with-clauses .ensures .1,
+      c .with-rows .ensures .1,
     )
 
 pub with-implication-spec : {M : Type 1} → statement M

@@ -3,7 +3,7 @@ use borrow.Author.Tests.{not-true, not-false}
 use mathlib.Core.Bool.{true}
 use mathlib.Core.Path.{_≡_, sym, _∙_}
 use Rattle.ipl.specs.Book.{countInRange}
-use Rattle.prover.specs.InRange.{flatsInRange, implicationsInRange, stepsInRange, worldsInRange, inRange}
+use Rattle.prover.specs.InRange.{flatsInRange, implicationsInRange, stepsInRange, worldsInRange, heldInRange, inRange}
 use borrow.Author.Needs.{needs}
 use Rattle.prover.proofs.range.in_range.Statement.{statement}
 use Rattle.prover.proofs.range.in_range.Tie as tie
@@ -25,6 +25,10 @@ steps c = sym (c .before .steps-in-range .ensures) ∙ not-false _ (c .if4 .left
 worlds : (c : tie.Else5) → let s = c .before .before .before .before .before .before .before .before .before .before .before .args .s in
     worldsInRange (s .n) (s .worlds) ≡ true
 worlds c = sym (c .before .worlds-in-range .ensures) ∙ not-false _ (c .if5 .left)
+
+held : (c : tie.Else6) → let s = c .before .before .before .before .before .before .before .before .before .before .before .before .before .args .s in
+    heldInRange (s .n) (s .held) ≡ true
+held c = sym (c .before .held-in-range .ensures) ∙ not-false _ (c .if6 .left)
 
 returns : tie.Need-returns
 unfolding inRange
@@ -64,11 +68,29 @@ returns-5 c =
 returns-6 : tie.Need-returns-6
 unfolding inRange
 returns-6 c =
-    let after-worlds = c .before in
+    let after-worlds = c .before .before in
     let after-steps = after-worlds .before .before in
     let after-implications = after-steps .before .before .before in
     let after-flats = after-implications .before .before in
-    rw (count (after-flats .before .before), flats after-flats, implications after-implications, steps after-steps, worlds after-worlds) (c .held-in-range .ensures)
+    rw (
+      count (after-flats .before .before),
+      flats after-flats,
+      implications after-implications,
+      steps after-steps,
+      worlds after-worlds,
+      sym (c .before .held-in-range .ensures) ∙ not-true _ (c .if6 .taken),
+    )
+
+returns-7 : tie.Need-returns-7
+unfolding inRange
+returns-7 c =
+    let after-held = c .before in
+    let after-worlds = after-held .before .before in
+    let after-steps = after-worlds .before .before in
+    let after-implications = after-steps .before .before .before in
+    let after-flats = after-implications .before .before in
+    rw (count (after-flats .before .before), flats after-flats, implications after-implications, steps after-steps, worlds after-worlds, held after-held)
+    (c .marks-in-range .ensures)
 
 pub in-range-spec : {M : Type 1} → statement M
 in-range-spec =
@@ -85,4 +107,6 @@ in-range-spec =
     (λ c κs. search needs)
     returns-5
     (λ c κs. search needs)
-    returns-6)
+    returns-6
+    (λ c κs. search needs)
+    returns-7)

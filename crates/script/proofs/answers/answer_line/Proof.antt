@@ -77,16 +77,26 @@ returns-7 c =
 
 returns-8 : tie.Need-returns-8
 returns-8 c =
-    let known = c .before .before .before .before in
-    made (known .before .before) (known .enum-told3 .given .1) (_, (refl, refl), c .before .before .write-length .ensures)
+    let known = c .before .before .before .before .before in
+    made (known .before .before) (known .number .given .1) (c .before .before .set-mark .ensures)
 
 returns-9 : tie.Need-returns-9
 returns-9 c =
-    let known = c .before .before .before .before in
-    made (known .before .before) (known .enum-told4 .given .1) (_, (refl, refl), c .before .before .write-sheet .ensures)
+    let known = c .before .before .before .before .before in
+    made (known .before .before) (known .number2 .given .1) (c .before .before .return-to .ensures)
 
 returns-10 : tie.Need-returns-10
 returns-10 c =
+    let known = c .before .before .before .before in
+    made (known .before .before) (known .enum-told3 .given .1) (_, (refl, refl), c .before .before .write-length .ensures)
+
+returns-11 : tie.Need-returns-11
+returns-11 c =
+    let known = c .before .before .before .before in
+    made (known .before .before) (known .enum-told4 .given .1) (_, (refl, refl), c .before .before .write-sheet .ensures)
+
+returns-12 : tie.Need-returns-12
+returns-12 c =
     let known = c .before .before .before .before .before in
     made (known .before .before) (known .start2 .given .1) (_, (refl, refl), c .before .before .check .ensures)
 
@@ -118,6 +128,10 @@ answer-line-spec =
     (λ c. search needs)
     (λ c κs. search needs)
     (λ c. search needs)
+    (λ c κs. search needs)
+    (λ c. search needs)
+    (λ c κs. search needs)
+    (λ c. search needs)
     check-requires
     returns
     (λ c. search needs)
@@ -137,4 +151,8 @@ answer-line-spec =
     (λ c. search needs)
     returns-9
     (λ c. search needs)
-    returns-10)
+    returns-10
+    (λ c. search needs)
+    returns-11
+    (λ c. search needs)
+    returns-12)

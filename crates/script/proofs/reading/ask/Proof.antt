@@ -1,23 +1,15 @@
 -- A goal, and nothing else.
-use mathlib.Core.Path.{refl, ap}
+use mathlib.Core.Path.{refl}
 use borrow.Author.Needs.{needs}
-use Rattle.script.specs.Places.{byteTaken}
-use Rattle.script.proofs.Calling.{missing, present, taken-inside, finished}
+use Rattle.script.proofs.Calling.{by-one-byte}
 use Rattle.script.proofs.reading.ask.Statement.{statement}
 use Rattle.script.proofs.reading.ask.Tie as tie
 
 returns : tie.Need-returns
-returns c = missing (c .before .before .byte-argument .ensures) _ (ap byteTaken (c .enum-told .given .1))
-
-if-last-requires : tie.Need-if-last-requires
-if-last-requires c κs = taken-inside (c .before .before .before .byte-argument .ensures) (ap byteTaken (c .before .goal .given .1))
+returns c = by-one-byte _ (c .before .before .before .one-byte .ensures) (c .before .goal .given .1) _ _ refl tt
 
 returns-2 : tie.Need-returns-2
-returns-2 c =
-    let taken = c .before .before in
-    present (taken .before .before .byte-argument .ensures) _ (ap byteTaken (taken .goal .given .1)) (finished _ (c .if-last .ensures) refl tt)
+returns-2 c = by-one-byte _ (c .before .before .one-byte .ensures) (c .enum-told .given .1) _ _ refl tt
 
 pub ask-spec : {M : Type 1} → statement M
-ask-spec =
-    tie.close
-    (tie.spec (λ c κs. search needs) (λ c. search needs) (λ c. search needs) returns if-last-requires returns-2)
+ask-spec = tie.close (tie.spec (λ c κs. search needs) (λ c. search needs) (λ c. search needs) returns returns-2)

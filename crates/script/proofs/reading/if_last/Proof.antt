@@ -5,10 +5,10 @@ use Rattle.script.proofs.reading.if_last.Statement.{statement}
 use Rattle.script.proofs.reading.if_last.Tie as tie
 
 returns : tie.Need-returns
-returns c = complete (c .before .before .next .ensures) _ (c .if1 .taken)
+returns c = complete (c .before .is-last .ensures) _ (c .if1 .taken)
 
 returns-2 : tie.Need-returns-2
-returns-2 c = incomplete (c .before .before .next .ensures) _ (c .if1 .left)
+returns-2 c = incomplete (c .before .is-last .ensures) _ (c .if1 .left)
 
 pub if-last-spec : {M : Type 1} → statement M
 if-last-spec = tie.close (tie.spec (λ c κs. search needs) returns returns-2)

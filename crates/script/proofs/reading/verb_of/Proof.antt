@@ -40,9 +40,19 @@ unfolding verbOf same ascii
 returns-8 c = ap verbOf (sym (c .before .same8 .ensures .0 (c .if8 .taken)))
 
 returns-9 : tie.Need-returns-9
+unfolding verbOf same ascii
+returns-9 c = ap verbOf (sym (c .before .same9 .ensures .0 (c .if9 .taken)))
+
+returns-10 : tie.Need-returns-10
+unfolding verbOf same ascii
+returns-10 c = ap verbOf (sym (c .before .same10 .ensures .0 (c .if10 .taken)))
+
+returns-11 : tie.Need-returns-11
 unfolding verbOf ascii
-returns-9 c =
-    let t8 = c in
+returns-11 c =
+    let t10 = c in
+    let t9 = t10 .before .before .before in
+    let t8 = t9 .before .before .before in
     let t7 = t8 .before .before .before in
     let t6 = t7 .before .before .before in
     let t5 = t6 .before .before .before in
@@ -59,6 +69,8 @@ returns-9 c =
       unlike _ _ _ (t6 .before .same6 .ensures .1) (t6 .if6 .left),
       unlike _ _ _ (t7 .before .same7 .ensures .1) (t7 .if7 .left),
       unlike _ _ _ (t8 .before .same8 .ensures .1) (t8 .if8 .left),
+      unlike _ _ _ (t9 .before .same9 .ensures .1) (t9 .if9 .left),
+      unlike _ _ _ (t10 .before .same10 .ensures .1) (t10 .if10 .left),
     )
 
 pub verb-of-spec : {M : Type 1} → statement M
@@ -89,4 +101,10 @@ verb-of-spec =
     (λ c. search needs)
     (λ c κs. search needs)
     returns-8
-    returns-9)
+    (λ c. search needs)
+    (λ c κs. search needs)
+    returns-9
+    (λ c. search needs)
+    (λ c κs. search needs)
+    returns-10
+    returns-11)
