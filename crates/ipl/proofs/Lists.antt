@@ -1,5 +1,5 @@
 -- Laws of the tests and statements over lists.
-use mathlib.Core.Bool.{Bool, true, false, cond, _&&_, _||_, or-false, or-assoc}
+use mathlib.Core.Bool.{Bool, true, false, not, cond, _&&_, _||_, or-false, or-assoc}
 use mathlib.Core.List.{List, [], _∷_, _++_, map, append-nil, append-assoc}
 use mathlib.Core.Logic.{inl, inr, _↔_}
 use mathlib.Core.Path.{_≡_, refl, sym, ap, ap₂, _∙_, subst}
@@ -11,10 +11,10 @@ use lib.Arith.{lt-of-le-ne}
 use lib.Dec.{T, eqb}
 use lib.ListN.{length, getD, take, length-append, List·getD-append}
 use lib.Seq.{getD-append-seam, take-all, take-append-le}
-use borrow.Author.Tests.{eqb-true, eqb-false}
+use borrow.Author.Tests.{eqb-true, eq-eqb, ne-eqb}
 use native.Mathlib.Numerals.{add-one}
-use Rattle.atoms.proofs.Truth.{T-left, T-right, T-and, T-or, T-inl, T-inr, T-iff, T-true, T-false, true-T, false-T}
-use Rattle.ipl.specs.Lists.{all, any, tabulate, All, Pairwise, Distinct}
+use Rattle.atoms.proofs.Truth.{T-left, T-right, T-and, T-or, T-inl, T-inr, T-iff, T-true, T-false, true-T, false-T, by-cond}
+use Rattle.ipl.specs.Lists.{all, any, keep, tabulate, All, Pairwise, Distinct}
 
 -- ---- every element
 
@@ -223,6 +223,38 @@ tabulate-append f m zero = rw (add-zero m) (sym (append-nil (tabulate f m)))
 tabulate-append f m (suc n) =
     rw (add-suc m n) (ap (λ l. l ++ (f (m + n) ∷ [])) (tabulate-append f m n) ∙ append-assoc (tabulate f m) (tabulate (λ i. f (m + i)) n) (f (m + n) ∷ []))
 
+-- ---- the elements that pass a test
+
+pub keep-all : {A : Type 0} (P : A → Type 0) (p : A → Bool) (l : List A) → All P l → All P (keep p l)
+unfolding keep
+keep-all P p [] h = tt
+keep-all P p (x ∷ l) h = by-cond (All P) (p x) (x ∷ keep p l) (keep p l) (λ _. (h .0, keep-all P p l (h .1))) (λ _. keep-all P p l (h .1))
+
+pub keep-passed : {A : Type 0} (p : A → Bool) (l : List A) → All (λ x. T (p x)) (keep p l)
+unfolding keep
+keep-passed p [] = tt
+keep-passed p (x ∷ l) = by-cond (All (λ y. T (p y))) (p x) (x ∷ keep p l) (keep p l) (λ e. (true-T e, keep-passed p l)) (λ _. keep-passed p l)
+
+pub keep-pairwise : {A : Type 0} (R : A → A → Type 0) (p : A → Bool) (l : List A) → Pairwise R l → Pairwise R (keep p l)
+unfolding keep
+keep-pairwise R p [] h = tt
+keep-pairwise R p (x ∷ l) h =
+    by-cond (Pairwise R) (p x) (x ∷ keep p l) (keep p l) (λ _. (keep-all (R x) p l (h .0), keep-pairwise R p l (h .1))) (λ _. keep-pairwise R p l (h .1))
+
+pub keep-snoc : {A : Type 0} (p : A → Bool) (l : List A) (x : A) → keep p (l ++ (x ∷ [])) ≡ keep p l ++ cond (p x) (x ∷ []) []
+unfolding keep
+keep-snoc p [] x = refl
+keep-snoc p (y ∷ l) x = rw (keep-snoc p l x) (go (p y) (cond (p x) (x ∷ []) []))
+  where
+    go : (b : Bool) (r : List _) → cond b (y ∷ (keep p l ++ r)) (keep p l ++ r) ≡ cond b (y ∷ keep p l) (keep p l) ++ r
+    go true r = refl
+    go false r = refl
+
+keep-whole : {A : Type 0} (p : A → Bool) (l : List A) → All (λ x. T (p x)) l → keep p l ≡ l
+unfolding keep
+keep-whole p [] h = refl
+keep-whole p (x ∷ l) h = rw (T-true (p x) (h .0), keep-whole p l (h .1))
+
 -- ---- what holds of each two
 
 pub pairwise-snoc : {A : Type 0} (R : A → A → Type 0) (l : List A) (m : A) → Pairwise R l → All (λ x. R x m) l → Pairwise R (l ++ (m ∷ []))
@@ -244,54 +276,23 @@ pairwise-before R (x ∷ l) d (suc i) h p = (All-at (R x) l d (p .0) i (le-of-su
 pub distinct-snoc : {A : Type 0} (l : List A) (m : A) → Distinct l → All (λ y. y ≡ m → ⊥) l → Distinct (l ++ (m ∷ []))
 distinct-snoc l m d h = pairwise-snoc (λ x y. x ≡ y → ⊥) l m d h
 
--- The list without the number k.
-without : ℕ → List ℕ → List ℕ
-without k [] = []
-without k (x ∷ l) = cond (eqb x k) (without k l) (x ∷ without k l)
+-- The test for other numbers than k, and the list without k.
+pub other-number : (x k : ℕ) → T (not (eqb x k)) → x ≡ k → ⊥
+other-number x k t e = subst (λ (b : Bool). T (not b)) (eq-eqb x k e) t
 
-without-all : (P : ℕ → Type 0) (k : ℕ) (l : List ℕ) → All P l → All P (without k l)
-unfolding without
-without-all P k [] h = tt
-without-all P k (x ∷ l) h = go (without-all P k l (h .1)) (eqb x k)
-  where
-    go : All P (without k l) → (b : Bool) → All P (cond b (without k l) (x ∷ without k l))
-    go r true = r
-    go r false = (h .0, r)
-
-without-distinct : (k : ℕ) (l : List ℕ) → Distinct l → Distinct (without k l)
-unfolding without
-without-distinct k [] d = tt
-without-distinct k (x ∷ l) d = go (without-distinct k l (d .1)) (eqb x k)
-  where
-    go : Distinct (without k l) → (b : Bool) → Distinct (cond b (without k l) (x ∷ without k l))
-    go r true = r
-    go r false = (without-all (λ y. x ≡ y → ⊥) k l (d .0), r)
-
-without-below : (k : ℕ) (l : List ℕ) → All (λ x. x < suc k) l → All (λ x. x < k) (without k l)
-unfolding without
-without-below k [] h = tt
-without-below k (x ∷ l) h = go (without-below k l (h .1)) (eqb x k) refl
-  where
-    go : All (λ y. y < k) (without k l) → (b : Bool) → eqb x k ≡ b → All (λ y. y < k) (cond b (without k l) (x ∷ without k l))
-    go r true e = r
-    go r false e = (lt-of-le-ne (omega (arith, h .0)) (eqb-false x k e), r)
-
-without-none : (k : ℕ) (l : List ℕ) → All (λ y. k ≡ y → ⊥) l → length (without k l) ≡ length l
-unfolding without
-without-none k [] h = refl
-without-none k (x ∷ l) h = go (without-none k l (h .1)) (eqb x k) refl
-  where
-    go : length (without k l) ≡ length l → (b : Bool) → eqb x k ≡ b → length (cond b (without k l) (x ∷ without k l)) ≡ suc (length l)
-    go r true e = absurd (h .0 (sym (eqb-true x k e)))
-    go r false e = ap suc r
+abbrev without : ℕ → List ℕ → List ℕ
+without k l = keep (λ x. not (eqb x k)) l
 
 without-length : (k : ℕ) (l : List ℕ) → Distinct l → length l ≤ suc (length (without k l))
-unfolding without
+unfolding keep
 without-length k [] d = zero-le
 without-length k (x ∷ l) d = go (without-length k l (d .1)) (eqb x k) refl
   where
-    go : length l ≤ suc (length (without k l)) → (b : Bool) → eqb x k ≡ b → suc (length l) ≤ suc (length (cond b (without k l) (x ∷ without k l)))
-    go r true e = omega (arith, without-none k l (subst (λ y. All (λ z. y ≡ z → ⊥) l) (eqb-true x k e) (d .0)))
+    others : x ≡ k → without k l ≡ l
+    others e = keep-whole (λ y. not (eqb y k)) l (All-map l (λ y differs. rw (ne-eqb y k (λ q. differs (e ∙ sym q))) tt) (d .0))
+
+    go : length l ≤ suc (length (without k l)) → (b : Bool) → eqb x k ≡ b → suc (length l) ≤ suc (length (cond (not b) (x ∷ without k l) (without k l)))
+    go r true e = omega (arith, ap length (others (eqb-true x k e)))
     go r false e = suc-le-suc r
 
 -- Different numbers below N are at most N.
@@ -299,4 +300,8 @@ pub pigeonhole : (N : ℕ) (l : List ℕ) → Distinct l → All (λ x. x < N) l
 pigeonhole zero [] d h = zero-le
 pigeonhole zero (x ∷ l) d h = absurd (not-suc-le-zero (h .0))
 pigeonhole (suc N) l d h =
-    omega (arith, without-length N l d, pigeonhole N (without N l) (without-distinct N l d) (without-below N l h))
+    let other : ℕ → Bool = λ x. not (eqb x N) in
+    let below : All (λ x. x < N) (without N l) =
+    All-map (without N l) (λ x b. lt-of-le-ne (omega (arith, b .0)) (other-number x N (b .1)))
+    (All-zip (λ x. x < suc N) (λ x. T (other x)) (without N l) (keep-all (λ x. x < suc N) other l h) (keep-passed other l)) in
+    omega (arith, without-length N l d, pigeonhole N (without N l) (keep-pairwise (λ x y. x ≡ y → ⊥) other l d) below)

@@ -1,62 +1,34 @@
 -- Marks: what is said of the rows up to each mark stays true while rows are added at the end, where a mark is set, and where the rows
 -- are cut back to one.
-use mathlib.Core.Bool.{Bool, true, false, cond}
+use mathlib.Core.Bool.{Bool, true, false, not, cond}
 use mathlib.Core.List.{List, [], _∷_, _++_, map, append-nil}
-use mathlib.Core.Path.{_≡_, refl, sym, ap, _∙_, subst}
+use mathlib.Core.Path.{_≡_, refl, sym, ap, _∙_}
 use Prim.Native.Nat.{ℕ, suc, _+_, _≤_, _<_}
 use native.Mathlib.Nat.{zero-add, le-refl, not-suc-le-zero, le-of-suc-le-suc}
 use native.Mathlib.Omega.{arith}
 use lib.Dec.{eqb}
-use lib.ListN.{length, take, drop, getD, length-append, length-map, take-append-drop}
+use lib.ListN.{length, take, drop, length-append, length-map, take-append-drop}
 use lib.Seq.{length-take-le, take-suc, take-length, take-append-le, take-take}
-use borrow.Author.Tests.{eqb-true, eqb-false}
+use borrow.Author.Tests.{eqb-true}
 use Rattle.ipl.specs.Lists.{All, Pairwise, Distinct}
 use Rattle.ipl.specs.Clause.{Flat, Implication}
 use Rattle.ipl.specs.Search.{Step}
 use Rattle.ipl.specs.Marks.{markTable, Mark, others, setLast, placeOf, markAt}
-use Rattle.ipl.specs.Book.{Book, markNow, cutTo, returned}
+use Rattle.ipl.specs.Book.{Book, markNow, returned}
 use Rattle.ipl.specs.Demand.{OfRows, Remembers, SetBefore, Marked}
-use Rattle.ipl.proofs.Lists.{All-at, All-map, All-zip, All-append, All-left, pairwise-snoc, pairwise-left, pairwise-before, pigeonhole}
+use Rattle.ipl.proofs.Lists.{All-at, All-map, All-zip, All-append, All-left, keep-all, keep-passed, keep-pairwise, pairwise-snoc, pairwise-left, pairwise-before, other-number, pigeonhole}
 
 -- ---- the marks of other numbers
 
 module _ (j : ℕ) where
-  pub others-all : (P : Mark → Type 0) (M : List Mark) → All P M → All P (others j M)
-  unfolding others
-  others-all P [] h = tt
-  others-all P (m ∷ M) h = go (others-all P M (h .1)) (eqb (m .number) j)
-    where
-      go : All P (others j M) → (b : Bool) → All P (cond b (others j M) (m ∷ others j M))
-      go r true = r
-      go r false = (h .0, r)
+  abbrev other : Mark → Bool
+  other m = not (eqb (m .number) j)
 
-  others-pairwise : (R : Mark → Mark → Type 0) (M : List Mark) → Pairwise R M → Pairwise R (others j M)
-  unfolding others
-  others-pairwise R [] h = tt
-  others-pairwise R (m ∷ M) h = go (others-pairwise R M (h .1)) (eqb (m .number) j)
-    where
-      go : Pairwise R (others j M) → (b : Bool) → Pairwise R (cond b (others j M) (m ∷ others j M))
-      go r true = r
-      go r false = (others-all (R m) M (h .0), r)
+  pub others-all : (P : Mark → Type 0) (M : List Mark) → All P M → All P (others j M)
+  others-all P M h = keep-all P other M h
 
   pub others-differ : (M : List Mark) → All (λ m. m .number ≡ j → ⊥) (others j M)
-  unfolding others
-  others-differ [] = tt
-  others-differ (m ∷ M) = go (others-differ M) (eqb (m .number) j) refl
-    where
-      go : All (λ m. m .number ≡ j → ⊥) (others j M) → (b : Bool) → eqb (m .number) j ≡ b → All (λ m. m .number ≡ j → ⊥) (cond b (others j M) (m ∷ others j M))
-      go r true e = r
-      go r false e = (eqb-false (m .number) j e, r)
-
-pub others-snoc : (j : ℕ) (M : List Mark) (m : Mark) → others j (M ++ (m ∷ [])) ≡ others j M ++ cond (eqb (m .number) j) [] (m ∷ [])
-unfolding others
-others-snoc j [] m = refl
-others-snoc j (x ∷ M) m =
-    rw (others-snoc j M m) (go (eqb (x .number) j) (cond (eqb (m .number) j) [] (m ∷ [])))
-  where
-    go : (b : Bool) (L : List Mark) → cond b (others j M ++ L) (x ∷ (others j M ++ L)) ≡ cond b (others j M) (x ∷ others j M) ++ L
-    go true L = refl
-    go false L = refl
+  others-differ M = All-map (others j M) (λ m t. other-number (m .number) j t) (keep-passed other M)
 
 pub set-all : (P : Mark → Type 0) (m : Mark) (M : List Mark) → All P (others (m .number) M) → P m → All P (setLast m M)
 unfolding setLast
@@ -190,7 +162,7 @@ module _ (P : OfRows) (k : Book) (h : Marked P k) where
     set-marked = record {
       rows = h .rows;
       marks = set-all Here (markNow k j) (k .marks) (others-all j Here (k .marks) (h .marks)) (now-remembers k j few (h .rows));
-      ordered = pairwise-snoc SetBefore (others j (k .marks)) (markNow k j) (others-pairwise j SetBefore (k .marks) (h .ordered)) now-last;
+      ordered = pairwise-snoc SetBefore (others j (k .marks)) (markNow k j) (keep-pairwise SetBefore (other j) (k .marks) (h .ordered)) now-last;
     }
 
   -- Coming back to the mark at place i.

@@ -1,6 +1,6 @@
 -- Coming back to a mark: what was held when it was set is held again.
 use mathlib.Core.List.{List, [], _∷_, _++_}
-use mathlib.Core.Path.{_≡_, refl, sym, ap, _∙_, subst}
+use mathlib.Core.Path.{_≡_, refl, ap}
 use Prim.Native.Nat.{ℕ, _<_}
 use lib.Dec.{eqb}
 use lib.ListN.{length}
@@ -8,11 +8,12 @@ use borrow.Author.Tests.{eqb-true}
 use Rattle.atoms.proofs.Truth.{by-cond}
 use Rattle.ipl.specs.Lists.{All}
 use Rattle.ipl.specs.Clause.{closings}
-use Rattle.ipl.specs.Marks.{markTable, Mark, others, setLast, placeOf, markAt}
-use Rattle.ipl.specs.Book.{Book, Addition, addFlat, addImplication, Call, add, question, setMark, returnTo, opened, answer, markNow, refusal, added, returned, taken, next, after}
-use Rattle.ipl.specs.Demand.{OfRows, Remembers, Marked, SameRows, ComesBack}
+use Rattle.ipl.specs.Marks.{markTable, Mark, others, placeOf, markAt}
+use Rattle.ipl.specs.Book.{Book, Addition, addFlat, addImplication, Call, add, question, setMark, returnTo}
+use Rattle.ipl.specs.Book.{opened, answer, markNow, refusal, added, returned, taken, next, after}
+use Rattle.ipl.specs.Demand.{OfRows, Remembers, SameRows, ComesBack}
 use Rattle.ipl.proofs.Lists.{All-at, All-map}
-use Rattle.ipl.proofs.Marks.{Longer, same, others-all, others-differ, set-all, place-number, longer-remembers, cut-remembers, now-remembers, there-remembers, kept-all}
+use Rattle.ipl.proofs.Marks.{same, others-all, others-differ, set-all, place-number, longer-remembers, cut-remembers, now-remembers, there-remembers, kept-all}
 use Rattle.ipl.proofs.Book.{Reached, RowsReached, opened-reached, next-reached, after-reached, next-taken, mark-unrefused, return-unrefused, steps-longer, answer-right}
 
 -- Mark j was set when b was held.

@@ -87,7 +87,7 @@ pub record Marked (P : OfRows) (k : Book) : Type 0 where
   pub marks : All (Remembers P (k .n) (k .flats) (k .implications) (k .steps)) (k .marks)
   pub ordered : Pairwise SetBefore (k .marks)
 
--- What every book reached by calls holds.
+-- What every book reached by calls holds: of all its rows, and of those up to each mark.
 abbrev pub WellFormed : Book → Type 0
 WellFormed = Marked RowsWellFormed
 

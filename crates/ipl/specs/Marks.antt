@@ -1,9 +1,10 @@
 -- Marks to come back to (document 02, change 3; the field says checkpoint), in the order in which they were last set.
-use mathlib.Core.Bool.{Bool, cond}
+use mathlib.Core.Bool.{Bool, not, cond}
 use mathlib.Core.List.{List, [], _∷_, _++_}
 use Prim.Native.Nat.{ℕ, suc}
 use lib.Dec.{eqb, ltb}
 use lib.ListN.{length, getD}
+use Rattle.ipl.specs.Lists.{keep}
 
 -- "A session gets eight marks, numbered 0 to 7."
 abbrev pub markTable : ℕ
@@ -17,9 +18,8 @@ pub record Mark : Type 0 where
   pub steps : ℕ
 
 -- The marks of other numbers than j.
-unfoldable pub others : ℕ → List Mark → List Mark
-others j [] = []
-others j (m ∷ M) = cond (eqb (m .number) j) (others j M) (m ∷ others j M)
+abbrev pub others : ℕ → List Mark → List Mark
+others j M = keep (λ m. not (eqb (m .number) j)) M
 
 -- "Setting it again moves it": the mark m is now the last set.
 unfoldable pub setLast : Mark → List Mark → List Mark
@@ -30,6 +30,7 @@ unfoldable pub placeOf : ℕ → List Mark → ℕ
 placeOf j [] = 0
 placeOf j (m ∷ M) = cond (eqb (m .number) j) 0 (suc (placeOf j M))
 
+-- It was set, and is not lost.
 unfoldable pub isSet : ℕ → List Mark → Bool
 isSet j M = ltb (placeOf j M) (length M)
 

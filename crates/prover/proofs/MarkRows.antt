@@ -1,18 +1,18 @@
 -- Laws of the table of marks: its rows are looked through, kept, written and cut.
-use mathlib.Core.Bool.{true, false, cond}
+use mathlib.Core.Bool.{not, cond}
 use mathlib.Core.List.{List, [], _∷_, _++_, map, append-nil}
-use mathlib.Core.Path.{_≡_, refl, sym, ap, _∙_, subst}
+use mathlib.Core.Path.{_≡_, refl, sym, ap, _∙_}
 use Prim.Native.Nat.{ℕ, suc, _+_, _≤_, _<_}
 use native.Mathlib.Nat.{add-zero}
 use native.Mathlib.Omega.{arith}
 use lib.Dec.{eqb}
-use lib.ListN.{length, getD, set, drop, length-map}
+use lib.ListN.{length, set, drop, length-map}
 use lib.Seq.{getD-set-same, getD-set-other, split-at}
 use borrow.Author.Tests.{eq-eqb, ne-eqb}
 use Rattle.ipl.specs.Lists.{tabulate}
-use Rattle.ipl.specs.Marks.{Mark, others, setLast, placeOf}
-use Rattle.ipl.proofs.Lists.{tabulate-length, tabulate-at, tabulate-take, tabulate-more}
-use Rattle.ipl.proofs.Marks.{others-snoc, place-append}
+use Rattle.ipl.specs.Marks.{Mark, others, placeOf}
+use Rattle.ipl.proofs.Lists.{keep-snoc, tabulate-length, tabulate-at, tabulate-take, tabulate-more}
+use Rattle.ipl.proofs.Marks.{place-append}
 use Rattle.prover.specs.State.{markOf, markRow, marksOf}
 use Rattle.prover.specs.declared.Mark as code
 use Rattle.prover.specs.declared.Marks.{Marks}
@@ -48,8 +48,9 @@ pub record Kept (j : ℕ) (t u : Marks) (i : ℕ) : Type 0 where
   pub few : u .count ≤ i
   pub rows : marksOf u ≡ others j (tabulate (markRow t) i)
 
-others-next : (j : ℕ) (row : ℕ → Mark) (i : ℕ) → others j (tabulate row (i + 1)) ≡ others j (tabulate row i) ++ cond (eqb (row i .number) j) [] (row i ∷ [])
-others-next j row i = ap (others j) (next j row i) ∙ others-snoc j (tabulate row i) (row i)
+others-next : (j : ℕ) (row : ℕ → Mark) (i : ℕ)
+    → others j (tabulate row (i + 1)) ≡ others j (tabulate row i) ++ cond (not (eqb (row i .number) j)) (row i ∷ []) []
+others-next j row i = ap (others j) (next j row i) ∙ keep-snoc (λ (m : Mark). not (eqb (m .number) j)) (tabulate row i) (row i)
 
 module _ (j : ℕ) (t u : Marks) (i : ℕ) (h : Kept j t u i) (l : i < t .count) where
   pub row-kept : (v : Marks) → (markRow t i .number ≡ j → ⊥) → (marksOf v ≡ marksOf u ++ (markRow t i ∷ [])) × (v .count ≡ u .count + 1) → Kept j t v (i + 1)

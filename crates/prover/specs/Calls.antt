@@ -8,8 +8,8 @@ use Rattle.atoms.specs.Words.{num, singleOrEmpty}
 use Rattle.ipl.specs.Clause.{bot, one, Flat, Implication}
 use Rattle.ipl.specs.Range.{flatTable}
 use Rattle.ipl.specs.Search.{Step, State, Outcome, valid, refuted, refused, unfinished}
-use Rattle.ipl.specs.Book.{Book, Addition, addFlat, addImplication, add, setMark, returnTo, opened, openRefusal, flatRefusal, implicationRefusal, goalRefusal, markRefusal, returnRefusal}
-use Rattle.ipl.specs.Book.{answer, taken}
+use Rattle.ipl.specs.Book.{Book, Addition, addFlat, addImplication, add, setMark, returnTo, opened, answer, taken}
+use Rattle.ipl.specs.Book.{openRefusal, flatRefusal, implicationRefusal, goalRefusal, markRefusal, returnRefusal}
 use Rattle.prover.specs.State.{flatsOf, implicationsOf, worldsOf, marksOf, book}
 use Rattle.prover.specs.InRange.{inRange}
 use Rattle.prover.specs.declared.Held.{Held}

@@ -131,14 +131,16 @@ pub fn in_range(s: Session) -> bool
     if !ipl::count_in_range(n) {
         return false;
     }
-    if !flats_in_range(s.flats, n) {
-        return false;
-    }
-    if !implications_in_range(s.implications, n) {
+    let flats = s.flats;
+    if !flats_in_range(flats, n) {
         return false;
     }
     let implications = s.implications;
-    if !steps_in_range(s.steps, implications.count, n) {
+    if !implications_in_range(implications, n) {
+        return false;
+    }
+    let steps = s.steps;
+    if !steps_in_range(steps, implications.count, n) {
         return false;
     }
     if !worlds_in_range(s.worlds, n) {
@@ -148,7 +150,8 @@ pub fn in_range(s: Session) -> bool
     if !held_in_range(held, n) {
         return false;
     }
-    marks_in_range(s.marks, s.flats.count, implications.count, s.steps.count)
+    let marks = s.marks;
+    marks_in_range(marks, flats.count, implications.count, steps.count)
 }
 
 // The number of the refusal that a flat clause meets, or 0.

@@ -2,7 +2,7 @@
 use mathlib.Core.List.{List, [], _∷_, _++_}
 use mathlib.Core.Logic.{inl, inr}
 use mathlib.Core.Path.{_≡_, ap, subst}
-use Prim.Native.Nat.{ℕ, _+_, _*_, _^_, _≤_, _<_, min}
+use Prim.Native.Nat.{ℕ, _+_, _*_, _^_, _≤_, _<_}
 use native.Mathlib.Decide.{decLe}
 use native.Mathlib.Omega.{arith}
 use lib.Dec.{T, eqb}
@@ -21,7 +21,7 @@ use Rattle.ipl.proofs.Lists.{All-map}
 use Rattle.ipl.proofs.Search.{OutcomeRight}
 use Rattle.ipl.proofs.Limits.{Fits, Ended}
 use Rattle.ipl.proofs.Book.{Reached, goal-taken, answer-right, question-ended}
-use Rattle.prover.specs.Calls.{mostTotal, totalAfter}
+use Rattle.prover.specs.Calls.{totalAfter}
 use Rattle.prover.proofs.Answers.{answer-refused}
 use Rattle.syntax.specs.Grammar.{Tree}
 use Rattle.syntax.specs.Nodes.{nodes, named}
@@ -35,7 +35,7 @@ use Rattle.clausify.specs.declared.Settled.{Settled}
 use Rattle.clausify.proofs.TextBook.{text-book, goal-in-range, text-reached}
 use Rattle.certificate.specs.Format.{each, contents, encode}
 use Rattle.certificate.specs.Written.{claimOfVerdict}
-use Rattle.text.specs.Text.{ascii, labelled, refusal}
+use Rattle.text.specs.Text.{ascii, labelled}
 use Rattle.report.specs.Report.{textRefusal, figures, stepLine, worldLine, validReport, refutedReport, reportOf}
 use Rattle.report.specs.Printed.{printedEnd, printedAs, printed, sheetBytes, sheetAs, sheet}
 use Rattle.text.specs.Output.{longest, Reported, Gives}

@@ -2,12 +2,11 @@
 use mathlib.Core.Logic.{⊎-elim}
 use mathlib.Core.Path.{_≡_, refl, sym, ap, _∙_, subst}
 use Prim.Native.Nat.{ℕ, _+_, _-_}
-use Rattle.ipl.specs.Lists.{tabulate}
+use Rattle.ipl.specs.Lists.{keep, tabulate}
 use Rattle.ipl.specs.Marks.{others}
 use Rattle.prover.specs.State.{markRow}
 use Rattle.prover.specs.declared.Marks.{Marks}
 use Rattle.prover.proofs.MarkRows.{Kept, row-kept, row-passed}
-use borrow.Author.Needs.{needs}
 use native.Mathlib.Omega.{arith}
 use Rattle.prover.proofs.marking.others.Statement.{statement}
 use Rattle.prover.proofs.marking.others.Tie as tie
@@ -19,7 +18,7 @@ abbrev μ-loop : tie.MeasureT-loop
 μ-loop number t kept₀ i₀ kept i = t .count - i
 
 loop-holds : tie.Need-loop-holds Inv-loop μ-loop
-unfolding others tabulate
+unfolding keep tabulate
 loop-holds c = record { inside = omega arith; few = omega arith; rows = refl }
 
 mul-mark : tie.Need-mul-mark Inv-loop μ-loop

@@ -5,7 +5,6 @@ use Rattle.ipl.specs.Lists.{tabulate}
 use Rattle.ipl.specs.Marks.{placeOf}
 use Rattle.prover.specs.State.{markRow}
 use Rattle.prover.proofs.MarkRows.{place-next, place-found}
-use borrow.Author.Needs.{needs}
 use native.Mathlib.Omega.{arith}
 use Rattle.prover.proofs.marking.place_of.Statement.{statement}
 use Rattle.prover.proofs.marking.place_of.Tie as tie

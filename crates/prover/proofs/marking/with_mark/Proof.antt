@@ -7,7 +7,6 @@ use Rattle.prover.specs.State.{flatsOf, implicationsOf, stepsOf, marksOf
 use Rattle.prover.proofs.Sessions.{few-marks}
 use Rattle.prover.proofs.Refusals.{number-zero}
 use Rattle.prover.proofs.Returns.{now-is}
-use borrow.Author.Needs.{needs}
 use Rattle.prover.proofs.marking.with_mark.Statement.{statement}
 use Rattle.prover.proofs.marking.with_mark.Tie as tie
 

@@ -1,7 +1,6 @@
 -- A number between two words.
 use Rattle.text.proofs.Appending.{both}
 use borrow.Author.Needs.{needs}
-use native.Mathlib.Omega.{arith}
 use Rattle.script.proofs.answers.numbered.Statement.{statement}
 use Rattle.script.proofs.answers.numbered.Tie as tie
 

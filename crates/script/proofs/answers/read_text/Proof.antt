@@ -4,7 +4,6 @@ use Rattle.syntax.specs.Judge.{judge}
 use Rattle.clausify.specs.Calls.{ClausifiedAs}
 use Rattle.script.proofs.Performing.{rest-of}
 use borrow.Author.Needs.{needs}
-use native.Mathlib.Omega.{arith}
 use Rattle.script.proofs.answers.read_text.Statement.{statement}
 use Rattle.script.proofs.answers.read_text.Tie as tie
 

@@ -2,7 +2,6 @@
 use Rattle.text.specs.Text.{ascii}
 use Rattle.text.proofs.Appending.{both}
 use borrow.Author.Needs.{needs}
-use native.Mathlib.Omega.{arith}
 use Rattle.script.proofs.answers.write_digits.Statement.{statement}
 use Rattle.script.proofs.answers.write_digits.Tie as tie
 

@@ -4,7 +4,6 @@ use Rattle.text.specs.Text.{ascii}
 use Rattle.text.proofs.Appending.{same-text}
 use Rattle.script.specs.State.{lengthLine}
 use borrow.Author.Needs.{needs}
-use native.Mathlib.Omega.{arith}
 use Rattle.script.proofs.answers.write_length.Statement.{statement}
 use Rattle.script.proofs.answers.write_length.Tie as tie
 
