@@ -1,25 +1,23 @@
 -- A list of calls on sessions is refused as often as the book refuses it.
 use mathlib.Core.Bool.{Bool, true, false, cond}
-use mathlib.Core.List.{List, [], _∷_}
+use mathlib.Core.List.{List}
 use mathlib.Core.Path.{_≡_, sym, ap, _∙_, subst}
 use Prim.Native.Nat.{ℕ, suc, _+_, _/_, _≤_}
 use native.Mathlib.Omega.{arith}
 use lib.Dec.{eqb}
 use lib.ListN.{length}
-use Rattle.ipl.specs.Clause.{Flat}
 use Rattle.ipl.specs.Search.{Outcome, valid, refuted, refused, unfinished}
-use Rattle.ipl.specs.Book.{Book, addFlat, addImplication, Call, add, question, setMark, returnTo, opened, additionRefusal, refusal, next, answer, numberOf}
+use Rattle.ipl.specs.Book.{Book, addFlat, addImplication, Call, add, question, opened, additionRefusal, refusal, taken, next, answer, numberOf}
 use Rattle.ipl.proofs.Book.{Reached, opened-reached, next-reached}
 use Rattle.prover.specs.State.{book}
 use Rattle.prover.specs.InRange.{inRange}
-use Rattle.prover.specs.Calls.{Opened, VerdictIs}
+use Rattle.prover.specs.Calls.{number, NothingHeld, Opened, Changes, VerdictIs}
 use Rattle.prover.specs.Demand as made
-use Rattle.prover.specs.Demand.{Made, callOf, Returned, sessionOf, Meets}
 use Rattle.prover.specs.declared.Session.{Session}
 use Rattle.prover.specs.declared.Changed.{Changed}
 use Rattle.prover.specs.declared.Answered.{Answered}
-use Rattle.prover.proofs.DemandThree.{nothing-in-range, asked-as, call-kept, follows}
-use Rattle.bench.specs.Calls.{Act, opening, calling, actAt, numberMet, bookAfter, oneIfRefused, refusalsFrom, refusals, numberTold, CallMet, Called}
+use Rattle.prover.proofs.DemandThree.{Kept, nothing-in-range, change-answer, dropped-kept, asked-as, call-kept}
+use Rattle.bench.specs.Calls.{Act, opening, adding, asking, actAt, numberMet, bookAfter, oneIfRefused, refusalsFrom, refusals, numberTold, Called}
 
 -- A session in range that holds the reached book k.
 pub record Stands (k : Book) (s : Session) : Type 0 where
@@ -44,30 +42,22 @@ abbrev Done : Book → Act → Changed → Type 0
 Done k x r = (r .refusal ≡ numberMet k x) × Stands (bookAfter k x) (r .session)
 
 module _ (s : Session) (in-range : inRange s ≡ true) (reached : Reached (book s)) where
-  made-stands : (c : Made) (x : Returned c) → Meets s c x → Stands (next (book s) (callOf c)) (sessionOf c x)
-  made-stands c x m =
-      let kept = call-kept s in-range reached c x m in
-      record { holds = kept .0; in-range = kept .1; reached = subst Reached (sym (kept .0)) (next-reached (book s) (callOf c) reached) }
+  kept-stands : (c : Call) (u : Session) → Kept s c u → Stands (next (book s) c) u
+  kept-stands c u kept = record { holds = kept .0; in-range = kept .1; reached = subst Reached (sym (kept .0)) (next-reached (book s) c reached) }
 
-  call-done : (c : Call) (r : Changed) → CallMet s c r → Done (book s) (calling c) r
-  unfolding refusal additionRefusal
-  call-done (add (addFlat f)) r (left, right, e, m) =
-      let c : Made = made.addFlat left right in
-      subst (λ (f : Flat). Done (book s) (calling (add (addFlat f))) r) (sym e)
-      (follows (c ∷ []) s in-range reached (r, m, tt) .1, made-stands c r m)
-  call-done (add (addImplication i)) r m =
-      let c : Made = made.addImplication (i .a) (i .b) (i .c) in
-      (follows (c ∷ []) s in-range reached (r, m, tt) .1, made-stands c r m)
-  call-done (question g) r (x, m, e, p) = (
-    p ∙ verdict-number g x (answer (book s) g) (asked-as s in-range reached g x m .0),
-    subst (Stands (next (book s) (question g))) (sym e) (made-stands (made.question g) x m),
-  )
-  call-done (setMark j) r m = (follows (made.setMark j ∷ []) s in-range reached (r, m, tt) .1, made-stands (made.setMark j) r m)
-  call-done (returnTo j) r m = (follows (made.returnTo j ∷ []) s in-range reached (r, m, tt) .1, made-stands (made.returnTo j) r m)
+  added-done : (c : Call) (r : Changed) → Changes s (number s (refusal (book s) c)) (taken (book s) c) (NothingHeld (s .total)) r
+      → (r .refusal ≡ refusal (book s) c) × Stands (next (book s) c) (r .session)
+  added-done c r m = (change-answer s in-range reached c (NothingHeld (s .total)) r m, kept-stands c (r .session) (dropped-kept s in-range reached c r m))
 
   called-done : (x : Act) (r : Changed) → Called s x r → Done (book s) x r
+  unfolding refusal additionRefusal
   called-done (opening n) r o = (o .refused, opened-stands n r o)
-  called-done (calling c) r m = call-done c r m
+  called-done (adding (addFlat f)) r m = added-done (add (addFlat f)) r m
+  called-done (adding (addImplication i)) r m = added-done (add (addImplication i)) r m
+  called-done (asking g) r (x, m, e, p) = (
+    p ∙ verdict-number g x (answer (book s) g) (asked-as s in-range reached g x m .0),
+    subst (Stands (next (book s) (question g))) (sym e) (kept-stands (question g) (x .session) (call-kept s in-range reached (made.question g) x m)),
+  )
 
 pub one-at-most : (number : ℕ) → oneIfRefused number ≤ 1
 one-at-most number = elim (eqb number 0) as (λ (b : Bool). cond {A = ℕ} b 0 1 ≤ 1) [

@@ -6,28 +6,26 @@ use Prim.Native.Nat.{ℕ, zero, suc, _+_, _*_, _/_}
 use lib.Dec.{eqb}
 use lib.ListN.{length, getD}
 use Rattle.atoms.specs.Words.{rowOf}
-use Rattle.atoms.specs.declared.AtomSet.{AtomSet}
 use Rattle.ipl.specs.Clause.{Flat}
-use Rattle.ipl.specs.Book.{Book, addFlat, addImplication, Call, add, question, setMark, returnTo, opened, openRefusal, refusal, next}
-use Rattle.prover.specs.Calls.{flatOf, Opened, FlatAdded, ImplicationAdded, Asked, MarkSet, MarkReturned}
+use Rattle.ipl.specs.Book.{Book, Addition, addFlat, addImplication, add, question, opened, openRefusal, refusal, next}
+use Rattle.prover.specs.Calls.{Opened, Added, Asked}
 use Rattle.prover.specs.declared.Session.{Session}
 use Rattle.prover.specs.declared.Changed.{Changed}
 use Rattle.prover.specs.declared.Answered.{Answered}
 use Rattle.prover.specs.declared.Verdict.{Verdict}
 use Rattle.prover.specs.declared.Verdict.the-variants.{Valid, Refuted, Refused}
 
--- An opening, or a call on the session that the last one returned.
+-- An opening, or an addition or a question on the session that the last one returned.
 pub data Act : Type 0 where
   opening : ℕ → Act
-  calling : Call → Act
+  adding : Addition → Act
+  asking : ℕ → Act
 
--- Kind 0 opens, 1 adds a flat clause, 2 an implication, 3 sets a mark, 4 returns to one; any other is a question.
+-- Kind 0 opens, 1 adds a flat clause, 2 an implication; any other is a question.
 abbrev pub act : ℕ → ℕ → ℕ → ℕ → Flat → Act
 act kind a b c f =
     cond (eqb kind 0) (opening a)
-    (cond (eqb kind 1) (calling (add (addFlat f)))
-    (cond (eqb kind 2) (calling (add (addImplication (record { a = a; b = b; c = c }))))
-    (cond (eqb kind 3) (calling (setMark a)) (cond (eqb kind 4) (calling (returnTo a)) (calling (question a))))))
+    (cond (eqb kind 1) (adding (addFlat f)) (cond (eqb kind 2) (adding (addImplication (record { a = a; b = b; c = c }))) (asking a)))
 
 -- Act i of a list: four bytes and two rows of sets.
 abbrev pub actAt : List ℕ → List ℕ → ℕ → Act
@@ -38,11 +36,13 @@ actAt calls sets i =
 -- The number that an act meets, and the book after it.
 abbrev pub numberMet : Book → Act → ℕ
 numberMet k (opening n) = openRefusal n
-numberMet k (calling c) = refusal k c
+numberMet k (adding x) = refusal k (add x)
+numberMet k (asking g) = refusal k (question g)
 
 abbrev pub bookAfter : Book → Act → Book
 bookAfter k (opening n) = opened n
-bookAfter k (calling c) = next k c
+bookAfter k (adding x) = next k (add x)
+bookAfter k (asking g) = next k (question g)
 
 abbrev pub oneIfRefused : ℕ → ℕ
 oneIfRefused number = cond (eqb number 0) 0 1
@@ -68,13 +68,7 @@ numberTold (Refused number place) = number
 abbrev pub QuestionPut : Session → ℕ → Changed → Type 0
 QuestionPut s g r = (x : Answered) × Asked s g x × (r .session ≡ x .session) × (r .refusal ≡ numberTold (x .verdict))
 
-abbrev pub CallMet : Session → Call → Changed → Type 0
-CallMet s (add (addFlat f)) r = (left : AtomSet) × (right : AtomSet) × (f ≡ flatOf left right) × FlatAdded s left right r
-CallMet s (add (addImplication i)) r = ImplicationAdded s (i .a) (i .b) (i .c) r
-CallMet s (question g) r = QuestionPut s g r
-CallMet s (setMark j) r = MarkSet s j r
-CallMet s (returnTo j) r = MarkReturned s j r
-
 abbrev pub Called : Session → Act → Changed → Type 0
 Called s (opening n) r = Opened n r
-Called s (calling c) r = CallMet s c r
+Called s (adding x) r = Added s x r
+Called s (asking g) r = QuestionPut s g r

@@ -61,7 +61,7 @@ fn ask(s: Session, goal: u8) -> Changed
     }
 }
 
-// Kind 0 opens a session of a atoms, 1 adds the flat clause, 2 the implication, 3 sets mark a, 4 returns to it; any other asks for a.
+// Kind 0 opens a session of a atoms, 1 adds the flat clause, 2 the implication; any other asks for a.
 fn call(s: Session, kind: u8, a: u8, b: u8, c: u8, left: AtomSet, right: AtomSet) -> Changed
     ensures { λ r. ⌜ Called s (act kind a b c (flatOf left right)) r ⌝ }
 {
@@ -71,10 +71,6 @@ fn call(s: Session, kind: u8, a: u8, b: u8, c: u8, left: AtomSet, right: AtomSet
         prover::add_flat(s, left, right)
     } else if kind == 2 {
         prover::add_implication(s, a, b, c)
-    } else if kind == 3 {
-        prover::set_mark(s, a)
-    } else if kind == 4 {
-        prover::return_to(s, a)
     } else {
         ask(s, a)
     }

@@ -126,7 +126,7 @@ module _ (s : Session) (in-range : inRange s ≡ true) (r : Reached (book s)) wh
     met : number s (refusal (book s) c) ≡ refusal (book s) c
     met = rw in-range
 
-    change-answer : x .refusal ≡ refusal (book s) c
+    pub change-answer : x .refusal ≡ refusal (book s) c
     change-answer = a .refused ∙ met
 
     change-kept : (book (x .session) ≡ taken (book s) c → Reached (book (x .session)) → Rest (x .session) → inRange (x .session) ≡ true) → Kept s c (x .session)

@@ -49,12 +49,17 @@ marks-cut t i l = sym (tabulate-take (markRow t) (t .count) (i + 1) (omega arith
 -- ---- the rows that a mark remembers
 
 -- The tables cut to the mark at place i.
+abbrev pub cutFlats : Session → ℕ → Flats
+cutFlats s i = record { count = markRow (s .marks) i .flats; left = s .flats .left; right = s .flats .right }
+
+abbrev pub cutImplications : Session → ℕ → Implications
+cutImplications s i =
+    record { count = markRow (s .marks) i .implications; a = s .implications .a; b = s .implications .b; c = s .implications .c }
+
 abbrev cutBook : Session → ℕ → Book
 cutBook s i =
-    let m = markRow (s .marks) i in
-    bookOf (s .n) (record { count = m .flats; left = s .flats .left; right = s .flats .right })
-    (record { count = m .implications; a = s .implications .a; b = s .implications .b; c = s .implications .c })
-    (record { count = m .steps; numbers = s .steps .numbers; assumed = s .steps .assumed }) (record { count = i + 1; rows = s .marks .rows })
+    bookOf (s .n) (cutFlats s i) (cutImplications s i)
+    (record { count = markRow (s .marks) i .steps; numbers = s .steps .numbers; assumed = s .steps .assumed }) (record { count = i + 1; rows = s .marks .rows })
 
 book-cut : (s : Session) → inRange s ≡ true → (i : ℕ) → i < s .marks .count → cutBook s i ≡ returned (book s) i
 unfolding returned

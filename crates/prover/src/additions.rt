@@ -105,19 +105,15 @@ fn with_closing(t: Flats, b: u8, c: u8) -> Flats
     }
 }
 
-// The session with other rows, and no verdict.
-pub fn with_rows(
-    s: Session,
-    flats: Flats,
-    implications: Implications,
-    steps: Steps,
-    marks: Marks,
-) -> Session
-    ensures { λ r. ⌜ (book r ≡ bookOf (s .n) flats implications steps marks) × NothingHeld (s .total) r ⌝ }
+// The session with other clauses, and no verdict.
+pub fn with_clauses(s: Session, flats: Flats, implications: Implications) -> Session
+    ensures { λ r. ⌜ (book r ≡ bookOf (s .n) flats implications (s .steps) (s .marks)) × NothingHeld (s .total) r ⌝ }
 {
     let mut worlds = s.worlds;
     worlds.count = 0;
+    let steps = s.steps;
     let held = Held::Nothing;
+    let marks = s.marks;
     Session {
         n: s.n,
         flats,
@@ -136,7 +132,8 @@ pub fn with_flat(s: Session, left: AtomSet, right: AtomSet) -> Session
     ensures { λ r. ⌜ (book r ≡ taken (book s) (add (addFlat (flatOf left right)))) × NothingHeld (s .total) r ⌝ }
 {
     let flats = with_flat_row(s.flats, left, right);
-    with_rows(s, flats, s.implications, s.steps, s.marks)
+    let implications = s.implications;
+    with_clauses(s, flats, implications)
 }
 
 // One implication more, with its closing clause. The caller has seen that it is not refused.
@@ -146,5 +143,5 @@ pub fn with_implication(s: Session, a: u8, b: u8, c: u8) -> Session
 {
     let flats = with_closing(s.flats, b, c);
     let implications = with_implication_row(s.implications, a, b, c);
-    with_rows(s, flats, implications, s.steps, s.marks)
+    with_clauses(s, flats, implications)
 }

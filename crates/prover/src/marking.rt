@@ -2,6 +2,7 @@
 use super::Mark;
 use super::Marks;
 use super::Session;
+use super::Steps;
 use super::additions;
 ghost use mathlib.Core.Path.{_≡_};
 ghost use mathlib.Core.List.{[], _∷_, _++_};
@@ -64,22 +65,14 @@ fn set_last(t: Marks, mark: Mark) -> Marks
     with_row(others(t, mark.number), mark)
 }
 
-// A mark set now. The caller has seen that it is not refused.
-pub fn with_mark(s: Session, number: u8) -> Session
-    requires { ⌜ markNumber s number ≡ 0 ⌝ }
-    ensures { λ r. ⌜ (book r ≡ taken (book s) (setMark number)) × VerdictKept s r ⌝ }
+// The session with other steps and marks.
+fn with_marks(s: Session, steps: Steps, marks: Marks) -> Session
+    ensures { λ r. ⌜ r ≡ record { n = s .n; flats = s .flats; implications = s .implications; steps = steps; worlds = s .worlds; total = s .total; held = s .held; marks = marks } ⌝ }
 {
     let flats = s.flats;
     let implications = s.implications;
-    let steps = s.steps;
     let worlds = s.worlds;
     let held = s.held;
-    let mark = Mark {
-        number,
-        flats: flats.count,
-        implications: implications.count,
-        steps: steps.count,
-    };
     Session {
         n: s.n,
         flats,
@@ -88,8 +81,26 @@ pub fn with_mark(s: Session, number: u8) -> Session
         worlds,
         total: s.total,
         held,
-        marks: set_last(s.marks, mark),
+        marks,
     }
+}
+
+// A mark set now. The caller has seen that it is not refused.
+pub fn with_mark(s: Session, number: u8) -> Session
+    requires { ⌜ markNumber s number ≡ 0 ⌝ }
+    ensures { λ r. ⌜ (book r ≡ taken (book s) (setMark number)) × VerdictKept s r ⌝ }
+{
+    let flats = s.flats;
+    let implications = s.implications;
+    let steps = s.steps;
+    let mark = Mark {
+        number,
+        flats: flats.count,
+        implications: implications.count,
+        steps: steps.count,
+    };
+    let marks = set_last(s.marks, mark);
+    with_marks(s, steps, marks)
 }
 
 // What a mark remembers, and no verdict. The caller has seen that it is not refused.
@@ -107,5 +118,6 @@ pub fn returned(s: Session, number: u8) -> Session
     implications.count = mark.implications;
     steps.count = mark.steps;
     marks.count = place + 1;
-    additions::with_rows(s, flats, implications, steps, marks)
+    let cut = with_marks(s, steps, marks);
+    additions::with_clauses(cut, flats, implications)
 }

@@ -1,5 +1,4 @@
 -- By the kind.
-use mathlib.Core.Path.{refl}
 use borrow.Author.Needs.{needs}
 use borrow.Author.Tests.{eq-eqb, ne-eqb}
 use native.Mathlib.Omega.{arith}
@@ -14,7 +13,7 @@ returns c =
 returns-2 : tie.Need-returns-2
 returns-2 c =
     let given = c .before .before .before .args in
-    rw (ne-eqb (given .kind) 0 (λ e. omega arith), eq-eqb (given .kind) 1 (omega arith)) (given .left, given .right, refl, c .add-flat .ensures)
+    rw (ne-eqb (given .kind) 0 (λ e. omega arith), eq-eqb (given .kind) 1 (omega arith)) (c .add-flat .ensures)
 
 returns-3 : tie.Need-returns-3
 returns-3 c =
@@ -23,21 +22,8 @@ returns-3 c =
 
 returns-4 : tie.Need-returns-4
 returns-4 c =
-    let given = c .before .before .before .before .before .args in
-    rw (ne-eqb (given .kind) 0 (λ e. omega arith), ne-eqb (given .kind) 1 (λ e. omega arith), ne-eqb (given .kind) 2 (λ e. omega arith), eq-eqb (given .kind) 3 (omega arith))
-    (c .set-mark .ensures)
-
-returns-5 : tie.Need-returns-5
-returns-5 c =
-    let kind = c .before .before .before .before .before .before .args .kind in
-    rw (ne-eqb kind 0 (λ e. omega arith), ne-eqb kind 1 (λ e. omega arith), ne-eqb kind 2 (λ e. omega arith), ne-eqb kind 3 (λ e. omega arith), eq-eqb kind 4 (omega arith))
-    (c .return-to .ensures)
-
-returns-6 : tie.Need-returns-6
-returns-6 c =
-    let kind = c .before .before .before .before .before .before .args .kind in
-    rw (ne-eqb kind 0 (λ e. omega arith), ne-eqb kind 1 (λ e. omega arith), ne-eqb kind 2 (λ e. omega arith), ne-eqb kind 3 (λ e. omega arith), ne-eqb kind 4 (λ e. omega arith))
-    (c .ask .ensures)
+    let given = c .before .before .before .before .args in
+    rw (ne-eqb (given .kind) 0 (λ e. omega arith), ne-eqb (given .kind) 1 (λ e. omega arith), ne-eqb (given .kind) 2 (λ e. omega arith)) (c .ask .ensures)
 
 pub call-spec : {M : Type 1} → statement M
 call-spec =
@@ -47,11 +33,7 @@ call-spec =
     (λ c κs. search needs)
     (λ c κs. search needs)
     (λ c κs. search needs)
-    (λ c κs. search needs)
-    (λ c κs. search needs)
     returns
     returns-2
     returns-3
-    returns-4
-    returns-5
-    returns-6)
+    returns-4)

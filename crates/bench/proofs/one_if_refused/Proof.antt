@@ -1,5 +1,4 @@
 -- By whether the number is 0.
-use mathlib.Core.Path.{sym}
 use native.Mathlib.Omega.{arith}
 use borrow.Author.Tests.{eq-eqb, ne-eqb}
 use Rattle.bench.proofs.one_if_refused.Statement.{statement}

@@ -58,15 +58,7 @@ impl Calls {
     }
 
     fn ask(&mut self, goal: u8) {
-        self.push([5, goal, 0, 0], [0, 0], format!("ask {goal}"));
-    }
-
-    fn set_mark(&mut self, mark: u8) {
-        self.push([3, mark, 0, 0], [0, 0], format!("mark {mark}"));
-    }
-
-    fn return_to(&mut self, mark: u8) {
-        self.push([4, mark, 0, 0], [0, 0], format!("return {mark}"));
+        self.push([3, goal, 0, 0], [0, 0], format!("ask {goal}"));
     }
 
     /// Makes the calls without their text. How many were refused?
@@ -117,28 +109,6 @@ pub fn mixed() -> Calls {
         for _ in 0..10 {
             calls.ask(random.below(10) as u8);
         }
-    })
-}
-
-/// One session of ten atoms with 20 clauses, in which a lemma of three clauses and an implication is tried by a question and taken out
-/// again.
-pub fn lemmas_tried() -> Calls {
-    let mut random = Random::new(37);
-    Calls::repeated(|calls| {
-        if calls.count() == 0 {
-            calls.open(10);
-            for _ in 0..20 {
-                calls.add_flat(small_flat(&mut random, 10));
-            }
-            calls.set_mark(0);
-        }
-        for _ in 0..3 {
-            calls.add_flat(small_flat(&mut random, 10));
-        }
-        let mut atom = || random.below(10) as u8;
-        calls.add_implication(Implication { a: atom(), b: atom(), c: atom() });
-        calls.ask(random.below(10) as u8);
-        calls.return_to(0);
     })
 }
 

@@ -21,7 +21,6 @@ pub fn print_times() {
         ("questions to a small session", calls::questions()),
         ("20 clauses, 5 implications, 10 questions", calls::mixed()),
         ("the clauses of a formula, one question", calls::formulas()),
-        ("lemmas tried and taken out by a return", calls::lemmas_tried()),
     ];
     for (name, list) in lists {
         let refused = list.make();

@@ -15,11 +15,11 @@ with-flat-row-requires c κs = flat-room _ _ (c .pre)
 returns : tie.Need-returns
 unfolding taken added
 returns c =
-    let s = c .before .before .args .s in (
-      c .with-rows .ensures .0
+    let s = c .before .before .before .args .s in (
+      c .with-clauses .ensures .0
           ∙ ap (λ (F : List Flat). record { n = s .n; flats = F; implications = implicationsOf (s .implications); steps = stepsOf (s .steps); marks = marksOf (s .marks) })
-          (c .before .with-flat-row .ensures),
-      c .with-rows .ensures .1,
+          (c .before .before .with-flat-row .ensures),
+      c .with-clauses .ensures .1,
     )
 
 pub with-flat-spec : {M : Type 1} → statement M

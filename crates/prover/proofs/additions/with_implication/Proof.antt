@@ -19,10 +19,10 @@ returns : tie.Need-returns
 unfolding taken added
 returns c =
     let s = c .before .before .before in (
-      c .with-rows .ensures .0
+      c .with-clauses .ensures .0
           ∙ ap₂ (λ (F : List Flat) (X : List Implication). record { n = s .args .s .n; flats = F; implications = X; steps = stepsOf (s .args .s .steps); marks = marksOf (s .args .s .marks) })
           (c .before .before .with-closing .ensures (s .args .a)) (c .before .with-implication-row .ensures),
-      c .with-rows .ensures .1,
+      c .with-clauses .ensures .1,
     )
 
 pub with-implication-spec : {M : Type 1} → statement M

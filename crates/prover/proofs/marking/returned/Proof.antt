@@ -1,11 +1,14 @@
 -- The tables with the counts that the mark remembers.
-use mathlib.Core.Path.{_∙_}
+use mathlib.Core.Path.{ap, _∙_, subst}
 use Prim.Native.Nat.{_+_, _<_}
 use Rattle.ipl.specs.Marks.{markTable}
+use Rattle.prover.specs.State.{bookOf}
+use Rattle.prover.specs.Calls.{NothingHeld}
+use Rattle.prover.specs.declared.Session.{Session}
 use borrow.Author.Needs.{needs}
 use native.Mathlib.Omega.{arith}
 use Rattle.prover.proofs.Sessions.{few-marks}
-use Rattle.prover.proofs.Returns.{return-in-range, place-inside, book-returned}
+use Rattle.prover.proofs.Returns.{cutFlats, cutImplications, return-in-range, place-inside, book-returned}
 use Rattle.prover.proofs.marking.returned.Statement.{statement}
 use Rattle.prover.proofs.marking.returned.Tie as tie
 
@@ -30,11 +33,24 @@ add-marks c = omega (arith, inside (c .before))
 
 returns : tie.Need-returns
 returns c =
-    let at-place = c .before .before in
-    let s = at-place .before .before .before .before .before in (
-      c .with-rows .ensures .0 ∙ book-returned (s .args .s) (s .args .number) (s .pre) (at-place .place-of .result) (at-place .place-of .ensures),
-      c .with-rows .ensures .1,
+    let made = c .before .with-marks .ensures in
+    let at-place = c .before .before .before in
+    let i = at-place .place-of .result in
+    let start = at-place .before .before .before .before .before in
+    let s = start .args .s in (
+      c .with-clauses .ensures .0 ∙ ap (λ (u : Session). bookOf (u .n) (cutFlats s i) (cutImplications s i) (u .steps) (u .marks)) made
+          ∙ book-returned s (start .args .number) (start .pre) i (at-place .place-of .ensures),
+      subst (λ (u : Session). NothingHeld (u .total) (c .with-clauses .result)) made (c .with-clauses .ensures .1),
     )
 
 pub returned-spec : {M : Type 1} → statement M
-returned-spec = tie.close (tie.spec place-of-requires mul-mark element-copy-out-mark add-marks (λ c κs. search needs) returns)
+returned-spec =
+    tie.close
+    (tie.spec
+    place-of-requires
+    mul-mark
+    element-copy-out-mark
+    add-marks
+    (λ c κs. search needs)
+    (λ c κs. search needs)
+    returns)
