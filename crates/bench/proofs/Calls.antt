@@ -7,16 +7,16 @@ use native.Mathlib.Omega.{arith}
 use lib.Dec.{eqb}
 use lib.ListN.{length}
 use Rattle.ipl.specs.Search.{Outcome, valid, refuted, refused, unfinished}
-use Rattle.ipl.specs.Book.{Book, addFlat, addImplication, Call, add, question, opened, additionRefusal, refusal, taken, next, answer, numberOf}
+use Rattle.ipl.specs.Book.{Book, addFlat, addImplication, Call, add, question, opened, additionRefusal, refusal, next, answer, numberOf}
 use Rattle.ipl.proofs.Book.{Reached, opened-reached, next-reached}
 use Rattle.prover.specs.State.{book}
 use Rattle.prover.specs.InRange.{inRange}
-use Rattle.prover.specs.Calls.{number, NothingHeld, Opened, Changes, VerdictIs}
+use Rattle.prover.specs.Calls.{NothingHeld, Opened, VerdictIs}
 use Rattle.prover.specs.Demand as made
 use Rattle.prover.specs.declared.Session.{Session}
 use Rattle.prover.specs.declared.Changed.{Changed}
 use Rattle.prover.specs.declared.Answered.{Answered}
-use Rattle.prover.proofs.DemandThree.{Kept, nothing-in-range, change-answer, dropped-kept, asked-as, call-kept}
+use Rattle.prover.proofs.DemandThree.{ByBook, Kept, nothing-in-range, change-answer, dropped-kept, asked-as, call-kept}
 use Rattle.bench.specs.Calls.{Act, opening, adding, asking, actAt, numberMet, bookAfter, oneIfRefused, refusalsFrom, refusals, numberTold, Called}
 
 -- A session in range that holds the reached book k.
@@ -45,7 +45,7 @@ module _ (s : Session) (in-range : inRange s ≡ true) (reached : Reached (book 
   kept-stands : (c : Call) (u : Session) → Kept s c u → Stands (next (book s) c) u
   kept-stands c u kept = record { holds = kept .0; in-range = kept .1; reached = subst Reached (sym (kept .0)) (next-reached (book s) c reached) }
 
-  added-done : (c : Call) (r : Changed) → Changes s (number s (refusal (book s) c)) (taken (book s) c) (NothingHeld (s .total)) r
+  added-done : (c : Call) (r : Changed) → ByBook s c (NothingHeld (s .total)) r
       → (r .refusal ≡ refusal (book s) c) × Stands (next (book s) c) (r .session)
   added-done c r m = (change-answer s in-range reached c (NothingHeld (s .total)) r m, kept-stands c (r .session) (dropped-kept s in-range reached c r m))
 

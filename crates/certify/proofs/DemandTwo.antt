@@ -16,14 +16,14 @@ use Rattle.ipl.specs.Book.{Book, Call, opened, answer, additionRefusal, refusal
 use Rattle.ipl.proofs.Book.{Reached, opened-reached, next-reached}
 use Rattle.prover.specs.State.{worldsOf, book}
 use Rattle.prover.specs.InRange.{inRange}
-use Rattle.prover.specs.Calls.{number, NothingHeld, VerdictKept, Changes, AskedAs}
+use Rattle.prover.specs.Calls.{number, NothingHeld, VerdictKept, AskedAs}
 use Rattle.prover.specs.Demand.{Made, addFlat, addImplication, question, setMark, returnTo, callOf, Returned, sessionOf, Meets, Run}
 use Rattle.prover.specs.declared.Held.{Held}
 use Rattle.prover.specs.declared.Held.the-variants as held
 use Rattle.prover.specs.declared.Session.{Session}
 use Rattle.prover.specs.declared.Changed.{Changed}
 use Rattle.prover.specs.declared.Answered.{Answered}
-use Rattle.prover.proofs.DemandThree.{Kept, nothing-in-range, dropped-kept, set-kept, asked-as, call-kept}
+use Rattle.prover.proofs.DemandThree.{ByBook, Kept, nothing-in-range, dropped-kept, set-kept, asked-as, call-kept}
 use Rattle.certificate.specs.Certificate as certificate
 use Rattle.certificate.specs.Judge.{judge}
 use Rattle.certificate.specs.Written.{problemOfBook, claimOfVerdict}
@@ -66,7 +66,7 @@ module _ (s : Session) (x : Option Certificate) (h : Standing s x) where
   after-call c u k y e right = record { in-range = k .1; reached = subst Reached (sym (k .0)) (next-reached (book s) c (h .reached)); held-is = e; right = right }
 
   -- A call that is taken, and one that is refused.
-  module _ (c : Call) (Rest : Session → Type 0) (u : Changed) (a : Changes s (number s (refusal (book s) c)) (taken (book s) c) Rest u)
+  module _ (c : Call) (Rest : Session → Type 0) (u : Changed) (a : ByBook s c Rest u)
       (y : Option Certificate) (taken-stands : book (u .session) ≡ taken (book s) c → Rest (u .session) → Standing (u .session) y) where
     met : number s (refusal (book s) c) ≡ refusal (book s) c
     met = rw (h .in-range)
@@ -82,7 +82,7 @@ module _ (s : Session) (x : Option Certificate) (h : Standing s x) where
     ]
 
   -- Additions and returns drop the verdict.
-  pub dropped : (c : Call) (u : Changed) → Changes s (number s (refusal (book s) c)) (taken (book s) c) (NothingHeld (s .total)) u
+  pub dropped : (c : Call) (u : Changed) → ByBook s c (NothingHeld (s .total)) u
       → Standing (u .session) (cond (eqb (refusal (book s) c) 0) none x)
   dropped c u a =
       changed c (NothingHeld (s .total)) u a none
@@ -96,7 +96,7 @@ module _ (s : Session) (x : Option Certificate) (h : Standing s x) where
   held-same j u b kept (held.Refuted g) =
       ap₂ (λ (k : Book) (W : List ℕ). some (record { problem = problemOfBook k g; claim = certificate.refuted W })) b (ap worldsOf (kept .same-worlds))
 
-  pub mark-set : (j : ℕ) (u : Changed) → Changes s (number s (refusal (book s) (B.setMark j))) (taken (book s) (B.setMark j)) (VerdictKept s) u → Standing (u .session) x
+  pub mark-set : (j : ℕ) (u : Changed) → ByBook s (B.setMark j) (VerdictKept s) u → Standing (u .session) x
   mark-set j u a =
       subst (Standing (u .session)) (same (eqb (refusal (book s) (B.setMark j)) 0)) (changed (B.setMark j) (VerdictKept s) u a x
       (λ b kept. after-call (B.setMark j) (u .session) (set-kept s (h .in-range) (h .reached) j u a) x

@@ -116,13 +116,17 @@ verdict-in-range s u i e r h =
     let p = parts s i in
     reached-in-range u r (rw (e, h .same-worlds) (p .worlds)) (rw (e, h .same-verdict) (p .held))
 
+-- The book judges the call and makes the next of it, and the rest of the session is left so.
+abbrev pub ByBook : Session → Call → (Session → Type 0) → Changed → Type 0
+ByBook s c Rest r = Changes s (number s (refusal (book s) c)) (taken (book s) c) Rest r
+
 -- What a call leaves: the book that it makes of the session's, and a session in range.
 abbrev pub Kept : Session → Call → Session → Type 0
 Kept s c next-session = (book next-session ≡ next (book s) c) × (inRange next-session ≡ true)
 
 module _ (s : Session) (in-range : inRange s ≡ true) (r : Reached (book s)) where
   -- ---- additions and marks
-  module _ (c : Call) (Rest : Session → Type 0) (x : Changed) (a : Changes s (number s (refusal (book s) c)) (taken (book s) c) Rest x) where
+  module _ (c : Call) (Rest : Session → Type 0) (x : Changed) (a : ByBook s c Rest x) where
     met : number s (refusal (book s) c) ≡ refusal (book s) c
     met = rw in-range
 
@@ -142,10 +146,10 @@ module _ (s : Session) (in-range : inRange s ≡ true) (r : Reached (book s)) wh
           (ap book same ∙ rw (ne-eqb (refusal (book s) c) 0 d), subst (λ (u : Session). inRange u ≡ true) (sym same) in-range)
     ]
 
-  pub dropped-kept : (c : Call) (x : Changed) → Changes s (number s (refusal (book s) c)) (taken (book s) c) (NothingHeld (s .total)) x → Kept s c (x .session)
+  pub dropped-kept : (c : Call) (x : Changed) → ByBook s c (NothingHeld (s .total)) x → Kept s c (x .session)
   dropped-kept c x a = change-kept c (NothingHeld (s .total)) x a (λ _. nothing-in-range (s .total) (x .session))
 
-  pub set-kept : (j : ℕ) (x : Changed) → Changes s (number s (refusal (book s) (B.setMark j))) (taken (book s) (B.setMark j)) (VerdictKept s) x → Kept s (B.setMark j) (x .session)
+  pub set-kept : (j : ℕ) (x : Changed) → ByBook s (B.setMark j) (VerdictKept s) x → Kept s (B.setMark j) (x .session)
   unfolding taken
   set-kept j x a = change-kept (B.setMark j) (VerdictKept s) x a (λ b. verdict-in-range s (x .session) in-range (ap (λ (k : Book). k .n) b))
 

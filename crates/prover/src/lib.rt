@@ -1,4 +1,4 @@
-// A session: it holds clauses, decides whether they force a goal, and keeps what it learned.
+// A session: it holds clauses, decides whether they force a goal, keeps what it learned, and comes back to marks.
 use atoms::AtomSet;
 ghost use Rattle.prover.specs.Calls.{Opened, FlatAdded, ImplicationAdded, Asked, MarkSet, MarkReturned};
 

@@ -17,7 +17,7 @@ use Rattle.prover.specs.Demand as made
 use Rattle.prover.specs.declared.Session.{Session}
 use Rattle.prover.specs.declared.Changed.{Changed}
 use Rattle.prover.specs.declared.Answered.{Answered}
-use Rattle.prover.proofs.DemandThree.{dropped-kept, set-kept, asked-as, call-kept}
+use Rattle.prover.proofs.DemandThree.{ByBook, dropped-kept, set-kept, asked-as, call-kept}
 use Rattle.syntax.specs.Refusal.{Refused, line-1, line-2, line-3, line-4}
 use Rattle.syntax.specs.Judge as text
 use Rattle.syntax.proofs.Judge.{judge-right}
@@ -106,19 +106,19 @@ module _ (s : Session) (h : Stands s) where
   x = certificateHeld s (s .held)
 
   -- Additions and marks: the questions stay.
-  changed-reaches : (c : Call) (Rest : Session → Type 0) (r : Changed) → Changes s (number s (refusal (book s) c)) (taken (book s) c) Rest r
+  changed-reaches : (c : Call) (Rest : Session → Type 0) (r : Changed) → ByBook s c Rest r
       → (Rest (r .session) → r .session .total ≡ s .total) → book (r .session) ≡ B.next (book s) c → (y : Option Certificate) → Standing (r .session) y
       → Reaches (record { book = B.next (book s) c; questions = s .total; answered = y }) (changedLine (refusal (book s) c)) (r .session) (changedLine (r .refusal))
   changed-reaches c Rest r a same b y stands =
       reaches (ap changedLine (a .refused) ∙ rw (h .in-range)) b (changed-total s (number s (refusal (book s) c)) (taken (book s) c) Rest r a same) stands
 
-  dropped-reaches : (c : Call) (r : Changed) → Changes s (number s (refusal (book s) c)) (taken (book s) c) (NothingHeld (s .total)) r
+  dropped-reaches : (c : Call) (r : Changed) → ByBook s c (NothingHeld (s .total)) r
       → Reaches (record { book = B.next (book s) c; questions = s .total; answered = cond (eqb (refusal (book s) c) 0) none x }) (changedLine (refusal (book s) c))
       (r .session) (changedLine (r .refusal))
   dropped-reaches c r a =
       changed-reaches c (NothingHeld (s .total)) r a (λ n. n .same-total) (dropped-kept s (h .in-range) (h .reached) c r a .0) _ (dropped s x h c r a)
 
-  set-reaches : (j : ℕ) (r : Changed) → Changes s (number s (refusal (book s) (setMark j))) (taken (book s) (setMark j)) (VerdictKept s) r
+  set-reaches : (j : ℕ) (r : Changed) → ByBook s (setMark j) (VerdictKept s) r
       → Reaches (record { book = B.next (book s) (setMark j); questions = s .total; answered = x }) (changedLine (refusal (book s) (setMark j)))
       (r .session) (changedLine (r .refusal))
   set-reaches j r a =
