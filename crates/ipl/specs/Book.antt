@@ -1,4 +1,4 @@
--- The book of demand 3: what is held after a list of calls, and the number that each call meets (document 01).
+-- The book of demand 3: what is held after a list of calls, and the number that each call meets (documents 01 and 02).
 use mathlib.Core.Bool.{Bool, not, cond, _&&_}
 use mathlib.Core.List.{List, [], _∷_, _++_}
 use Prim.Native.Nat.{ℕ, suc}

@@ -1,4 +1,4 @@
--- The definitions of document 01, in the order in which they build on each other.
+-- The definitions of the documents, in the order in which they build on each other.
 pub mod Lists
 pub mod Clause
 pub mod Range
