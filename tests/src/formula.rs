@@ -17,26 +17,3 @@ pub enum Part {
 }
 
 pub type Formula = Vec<Part>;
-
-/// The letters in order of first standing.
-pub fn letters(formula: &[Part]) -> Vec<u8> {
-    let mut found = Vec::new();
-    for part in formula {
-        if let Part::Letter(letter) = part {
-            if !found.contains(letter) {
-                found.push(*letter);
-            }
-        }
-    }
-    found
-}
-
-/// How many names the parts get; an equivalence stands for three connectives.
-pub fn name_count(formula: &[Part]) -> usize {
-    let names = |part: &Part| match part {
-        Part::False | Part::Letter(_) => 0,
-        Part::Join(Connective::Equal, ..) => 3,
-        Part::Join(..) => 1,
-    };
-    formula.iter().map(names).sum()
-}

@@ -16,5 +16,6 @@ pub mod script;
 pub mod search;
 pub mod sequent;
 pub mod session;
+pub mod shared;
 pub mod stored;
 pub mod texts;

@@ -1,6 +1,7 @@
-//! A formula to a clausal sequent: an atom for each letter, a name for each connective, and the clauses of each name.
+//! A formula to a clausal sequent: an atom for each letter, a name for each other formula among its parts, and the clauses of each name.
 
-use crate::formula::{letters, Connective, Part};
+use crate::formula::Part;
+use crate::shared::{Node, Shared};
 
 /// False, where a number of an atom may stand for it.
 pub const FALSE: u8 = 255;
@@ -46,33 +47,44 @@ pub fn single(atom: u8) -> u64 {
 }
 
 pub fn problem_of(formula: &[Part]) -> Problem {
-    let atoms = atoms_of(formula);
-    let mut problem = Problem { atoms: 0, flats: Vec::new(), implications: Vec::new(), goal: atoms[atoms.len() - 1] };
-    for (part, &x) in formula.iter().zip(&atoms) {
-        if let Part::Join(connective, left, right) = *part {
-            problem.join(connective, x, atoms[left], atoms[right]);
+    let (shared, numbers) = Shared::of(formula);
+    let atoms = numbered(&shared);
+    let goal = atoms[numbers[numbers.len() - 1]];
+    let mut problem =
+        Problem { atoms: shared.atom_count().max(1) as u8, flats: Vec::new(), implications: Vec::new(), goal };
+    for (node, &x) in shared.nodes.iter().zip(&atoms) {
+        match *node {
+            Node::False | Node::Letter(_) => {}
+            Node::And(y, z) => problem.and(x, atoms[y], atoms[z]),
+            Node::Or(y, z) => problem.or(x, atoms[y], atoms[z]),
+            Node::Implies(y, z) => problem.implies(x, atoms[y], atoms[z]),
         }
     }
-    let last = atoms.iter().filter(|&&atom| atom != FALSE).max();
-    problem.atoms = last.map_or(1, |atom| atom + 1);
     problem
 }
 
-/// The atom of each part, false for ⊥. An equivalence has the names of its two implications just below its own.
+/// The atom of each formula, false for ⊥: letters first, then names.
+fn numbered(shared: &Shared) -> Vec<u8> {
+    let is_letter = |node: &&Node| matches!(node, Node::Letter(_));
+    let mut letter = 0;
+    let mut name = shared.nodes.iter().filter(is_letter).count() as u8;
+    let mut next = |node: &Node| {
+        let counter = match node {
+            Node::False => return FALSE,
+            Node::Letter(_) => &mut letter,
+            _ => &mut name,
+        };
+        *counter += 1;
+        *counter - 1
+    };
+    shared.nodes.iter().map(|node| next(node)).collect()
+}
+
+/// The atom of each part.
 pub fn atoms_of(formula: &[Part]) -> Vec<u8> {
-    let letters = letters(formula);
-    let mut next = letters.len() as u8;
-    let mut name = |count: u8| {
-        next += count;
-        next - 1
-    };
-    let atom = |part: &Part| match part {
-        Part::False => FALSE,
-        Part::Letter(letter) => letters.iter().position(|l| l == letter).expect("a letter listed") as u8,
-        Part::Join(Connective::Equal, ..) => name(3),
-        Part::Join(..) => name(1),
-    };
-    formula.iter().map(atom).collect()
+    let (shared, numbers) = Shared::of(formula);
+    let atoms = numbered(&shared);
+    numbers.iter().map(|&number| atoms[number]).collect()
 }
 
 impl Problem {
@@ -89,25 +101,16 @@ impl Problem {
         a < self.atoms && self.has_atom_or_false(b) && self.has_atom_or_false(c)
     }
 
-    fn join(&mut self, connective: Connective, x: u8, y: u8, z: u8) {
-        match connective {
-            Connective::And => {
-                self.flat(&[x], &[y]);
-                self.flat(&[x], &[z]);
-                self.flat(&[y, z], &[x]);
-            }
-            Connective::Or => {
-                self.flat(&[x], &[y, z]);
-                self.flat(&[y], &[x]);
-                self.flat(&[z], &[x]);
-            }
-            Connective::Implies => self.implies(x, y, z),
-            Connective::Equal => {
-                self.implies(x - 2, y, z);
-                self.implies(x - 1, z, y);
-                self.join(Connective::And, x, x - 2, x - 1);
-            }
-        }
+    fn and(&mut self, x: u8, y: u8, z: u8) {
+        self.flat(&[x], &[y]);
+        self.flat(&[x], &[z]);
+        self.flat(&[y, z], &[x]);
+    }
+
+    fn or(&mut self, x: u8, y: u8, z: u8) {
+        self.flat(&[x], &[y, z]);
+        self.flat(&[y], &[x]);
+        self.flat(&[z], &[x]);
     }
 
     fn implies(&mut self, x: u8, y: u8, z: u8) {
@@ -143,6 +146,15 @@ mod tests {
         assert_eq!((p.atoms, p.goal), (7, 6));
         let rows: Vec<(u8, u8, u8)> = p.implications.iter().map(|i| (i.a, i.b, i.c)).collect();
         assert_eq!(rows, [(0, FALSE, 2), (2, 3, 4), (3, 2, 5)]);
+    }
+
+    #[test]
+    fn equal_parts_share_a_name() {
+        let p = problem("(p=p)&(p=p)");
+        assert_eq!((p.atoms, p.goal), (4, 3));
+        let flats: Vec<(u64, u64)> = p.flats.iter().map(|f| (f.left, f.right)).collect();
+        assert_eq!(flats, [(3, 1), (1, 2), (4, 2), (4, 2), (2, 4), (8, 4), (8, 4), (4, 8)]);
+        assert_eq!(p.implications, [Implication { a: 0, b: 0, c: 1 }]);
     }
 
     #[test]

@@ -84,6 +84,25 @@ fn inner(random: &mut Random, style: &Style, connectives: usize, equated: &mut b
     text.push(b')');
 }
 
+/// Text put together from its own parts: long, with few different ones, and perhaps with more than are allowed.
+pub fn repeating(random: &mut Random) -> Vec<u8> {
+    let mut parts: Vec<Vec<u8>> = [b"p", b"q", b"r", b"0"].map(|leaf| leaf.to_vec()).to_vec();
+    for _ in 0..random.below(80) {
+        let other = random.pick(&parts);
+        let last = &parts[parts.len() - 1];
+        let joined = match random.pick(b"&|>>==~") {
+            b'~' => [b"~", &last[..]].concat(),
+            &connective if random.one_in(2) => [b"(", &other[..], &[connective], last, b")"].concat(),
+            &connective => [b"(", &last[..], &[connective], other, b")"].concat(),
+        };
+        if joined.len() > 4_096 {
+            break;
+        }
+        parts.push(joined);
+    }
+    parts.swap_remove(parts.len() - 1)
+}
+
 /// One or two bytes changed, mostly by one bit.
 pub fn bytes_changed(random: &mut Random, original: &[u8]) -> Vec<u8> {
     let mut changed = original.to_vec();
@@ -93,4 +112,21 @@ pub fn bytes_changed(random: &mut Random, original: &[u8]) -> Vec<u8> {
         changed[at] = *random.pick(&[flipped, flipped, flipped, 0, 255]);
     }
     changed
+}
+
+#[cfg(test)]
+mod tests {
+    use super::*;
+    use crate::reader::read;
+    use crate::refusal::Refusal;
+
+    /// Long texts are read, and some have too many parts.
+    #[test]
+    fn texts_that_repeat() {
+        let mut random = Random::new(4);
+        let texts: Vec<Vec<u8>> = (0..1_000).map(|_| repeating(&mut random)).collect();
+        let long = texts.iter().filter(|text| text.len() > 2_000 && read(text).is_ok()).count();
+        let large = texts.iter().filter(|text| read(text) == Err(Refusal::plain(4))).count();
+        assert!(long > 500 && large > 20, "{long} {large}");
+    }
 }

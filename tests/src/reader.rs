@@ -1,7 +1,8 @@
 //! Formula text to parts, by two stacks: the operands read, and what still waits for one.
 
-use crate::formula::{letters, name_count, Connective, Formula, Part};
+use crate::formula::{Connective, Formula, Part};
 use crate::refusal::Refusal;
+use crate::shared::Shared;
 
 const MOST_BYTES: usize = 4096;
 const MOST_OPEN: i32 = 64;
@@ -15,7 +16,7 @@ pub fn read(text: &[u8]) -> Result<Formula, Refusal> {
         return Err(Refusal::plain(2));
     }
     let formula = parse(text).map_err(|place| Refusal::at(3, place))?;
-    if letters(&formula).len() + name_count(&formula) > MOST_ATOMS {
+    if Shared::of(&formula).0.atom_count() > MOST_ATOMS {
         return Err(Refusal::plain(4));
     }
     Ok(formula)
@@ -209,6 +210,12 @@ mod tests {
         assert_eq!(refused(&("~".repeat(64) + "p")), Refusal::plain(4));
         assert!(read(("~".repeat(64) + "0").as_bytes()).is_ok());
         assert_eq!(refused(&("~".repeat(65) + "0")), Refusal::plain(4));
+        assert_eq!(refused(&("(p&q)|".repeat(682) + "p&q")), Refusal::plain(4));
+        let mut doubled = "p".to_string();
+        while doubled.len() < 4093 {
+            doubled = format!("({doubled}&{doubled})");
+        }
+        assert!(read((doubled + "   ").as_bytes()).is_ok());
     }
 
     #[test]

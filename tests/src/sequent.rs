@@ -1,65 +1,26 @@
 //! A second way to a verdict: root-first search in Dyckhoff's contraction-free sequent calculus.
 
-use crate::formula::{Connective, Part};
+use crate::formula::Part;
+use crate::shared::{Node, Shared};
 use std::collections::{BTreeSet, HashMap};
-
-#[derive(Clone, Copy, PartialEq, Eq, Hash)]
-enum Node {
-    False,
-    Letter(u8),
-    And(usize, usize),
-    Or(usize, usize),
-    Implies(usize, usize),
-}
 
 type Context = BTreeSet<usize>;
 
 /// Equal formulas have one number, so that sequents met before are known again.
 struct Prover {
-    nodes: Vec<Node>,
-    numbers: HashMap<Node, usize>,
+    formulas: Shared,
     settled: HashMap<(Context, usize), bool>,
     budget: usize,
 }
 
 /// Whether the formula is provable, or nothing if that takes more than `budget` sequents.
 pub fn provable(formula: &[Part], budget: usize) -> Option<bool> {
-    let mut prover = Prover { nodes: Vec::new(), numbers: HashMap::new(), settled: HashMap::new(), budget };
-    let mut numbers: Vec<usize> = Vec::new();
-    for part in formula {
-        let number = match *part {
-            Part::False => prover.number(Node::False),
-            Part::Letter(letter) => prover.number(Node::Letter(letter)),
-            Part::Join(connective, left, right) => prover.join(connective, numbers[left], numbers[right]),
-        };
-        numbers.push(number);
-    }
+    let (formulas, numbers) = Shared::of(formula);
+    let mut prover = Prover { formulas, settled: HashMap::new(), budget };
     prover.prove(Context::new(), *numbers.last()?)
 }
 
 impl Prover {
-    fn number(&mut self, node: Node) -> usize {
-        let next = self.nodes.len();
-        let number = *self.numbers.entry(node).or_insert(next);
-        if number == next {
-            self.nodes.push(node);
-        }
-        number
-    }
-
-    fn join(&mut self, connective: Connective, left: usize, right: usize) -> usize {
-        match connective {
-            Connective::And => self.number(Node::And(left, right)),
-            Connective::Or => self.number(Node::Or(left, right)),
-            Connective::Implies => self.number(Node::Implies(left, right)),
-            Connective::Equal => {
-                let forth = self.number(Node::Implies(left, right));
-                let back = self.number(Node::Implies(right, left));
-                self.number(Node::And(forth, back))
-            }
-        }
-    }
-
     fn prove(&mut self, context: Context, goal: usize) -> Option<bool> {
         let sequent = (context, goal);
         if let Some(&known) = self.settled.get(&sequent) {
@@ -73,7 +34,7 @@ impl Prover {
 
     /// The invertible rules first; the others are tried one by one.
     fn apply_rules(&mut self, context: &Context, goal: usize) -> Option<bool> {
-        if context.contains(&goal) || context.iter().any(|&f| self.nodes[f] == Node::False) {
+        if context.contains(&goal) || context.iter().any(|&f| self.formulas.nodes[f] == Node::False) {
             return Some(true);
         }
         for &formula in context {
@@ -81,7 +42,7 @@ impl Prover {
                 return self.all(premises, goal);
             }
         }
-        match self.nodes[goal] {
+        match self.formulas.nodes[goal] {
             Node::And(left, right) => Some(self.prove(context.clone(), left)? && self.prove(context.clone(), right)?),
             Node::Implies(left, right) => self.prove(with(context, &[left]), right),
             Node::Or(left, right) => Some(
@@ -105,20 +66,20 @@ impl Prover {
     /// What a formula on the left comes to where its rule loses nothing.
     fn left_invertible(&mut self, context: &Context, formula: usize) -> Option<Vec<Context>> {
         let rest = without(context, formula);
-        match self.nodes[formula] {
+        match self.formulas.nodes[formula] {
             Node::And(left, right) => Some(vec![with(&rest, &[left, right])]),
             Node::Or(left, right) => Some(vec![with(&rest, &[left]), with(&rest, &[right])]),
             Node::Implies(left, right) if rest.contains(&left) => Some(vec![with(&rest, &[right])]),
-            Node::Implies(left, right) => match self.nodes[left] {
+            Node::Implies(left, right) => match self.formulas.nodes[left] {
                 Node::False => Some(vec![rest]),
                 Node::And(first, second) => {
-                    let inner = self.number(Node::Implies(second, right));
-                    let outer = self.number(Node::Implies(first, inner));
+                    let inner = self.formulas.number(Node::Implies(second, right));
+                    let outer = self.formulas.number(Node::Implies(first, inner));
                     Some(vec![with(&rest, &[outer])])
                 }
                 Node::Or(first, second) => {
-                    let one = self.number(Node::Implies(first, right));
-                    let other = self.number(Node::Implies(second, right));
+                    let one = self.formulas.number(Node::Implies(first, right));
+                    let other = self.formulas.number(Node::Implies(second, right));
                     Some(vec![with(&rest, &[one, other])])
                 }
                 Node::Letter(_) | Node::Implies(..) => None,
@@ -130,14 +91,14 @@ impl Prover {
     /// The rule for (c → d) → b on the left.
     fn nested(&mut self, context: &Context, goal: usize) -> Option<bool> {
         for &formula in context {
-            let Node::Implies(inner, b) = self.nodes[formula] else {
+            let Node::Implies(inner, b) = self.formulas.nodes[formula] else {
                 continue;
             };
-            let Node::Implies(_, d) = self.nodes[inner] else {
+            let Node::Implies(_, d) = self.formulas.nodes[inner] else {
                 continue;
             };
             let rest = without(context, formula);
-            let shorter = self.number(Node::Implies(d, b));
+            let shorter = self.formulas.number(Node::Implies(d, b));
             if self.prove(with(&rest, &[shorter]), inner)? {
                 return self.prove(with(&rest, &[b]), goal);
             }

@@ -11,7 +11,7 @@ use Rattle.prover.specs.Demand.{Made, question, Run, Follows}
 use Rattle.prover.specs.declared.Session.{Session}
 use Rattle.prover.specs.declared.Answered.{Answered}
 use Rattle.prover.proofs.DemandThree.{session-follows}
-use Rattle.syntax.specs.Grammar.{Tree}
+use Rattle.ipl.specs.Formula.{Formula}
 use Rattle.syntax.specs.Judge.{Judgement, refused, accepted, judge}
 use Rattle.clausify.specs.Naming.{textBook, goalOf}
 use Rattle.clausify.specs.Calls.{Holds, ClausifiedAs, SettledAs}
@@ -41,7 +41,7 @@ module _ (r : Clausified) where
   text-follows j h = session-follows (bookOf j) (book-reached j) (r .session) (holds-book j h) (clausified-nothing j h)
 
 -- A run on the session of a verdict is one on the text's session whose first call is the question.
-module _ (t : Tree) (r : Settled) (s : Session) (holds : Holds t s (r .goal)) where
+module _ (t : Formula) (r : Settled) (s : Session) (holds : Holds t s (r .goal)) where
   abbrev answered : Answered
   answered = record { verdict = r .verdict; session = r .session }
 

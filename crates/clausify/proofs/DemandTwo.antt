@@ -22,8 +22,8 @@ use Rattle.prover.specs.declared.Session.{Session}
 use Rattle.prover.specs.declared.Verdict.{Verdict}
 use Rattle.prover.specs.declared.Answered.{Answered}
 use Rattle.prover.proofs.DemandThree.{nothing-in-range, asked-as}
-use Rattle.syntax.specs.Grammar.{Tree, opened}
-use Rattle.syntax.specs.Nodes.{letter, leafAt, nodes, named}
+use Rattle.ipl.specs.Formula.{Formula}
+use Rattle.syntax.specs.Nodes.{letter, indexOf, nodes, named}
 use Rattle.syntax.specs.Refusal.{mostNames, Accepted}
 use Rattle.syntax.specs.Judge as judgement
 use Rattle.syntax.specs.Judge.{Judgement, judge, Right}
@@ -40,15 +40,15 @@ use Rattle.clausify.proofs.Extension.{extended, extended-model, extende
 
 -- ---- the clauses of a text and its formula
 
-module _ (t : Tree) where
+module _ (t : Formula) where
   -- A countermodel of the clauses of t with its goal.
   abbrev Counters : Model → Type 0
   Counters m = Countermodel (flatsBy (calls (nodes t .table))) (implicationsBy (calls (nodes t .table))) (goalOf t) m
 
   -- A formula that some model does not force at its root has a countermodel.
-  no-countermodel : named (nodes t .table) ≤ mostNames → ((m : Model) → Counters m → ⊥) → (m : Model) → IsModel m → forces m (m .root) (opened t)
+  no-countermodel : named (nodes t .table) ≤ mostNames → ((m : Model) → Counters m → ⊥) → (m : Model) → IsModel m → forces m (m .root) t
   unfolding goalOf
-  no-countermodel few none m ok = elim (forces-decidable m (opened t) (m .root)) [
+  no-countermodel few none m ok = elim (forces-decidable m t (m .root)) [
     | yes h ↦ h
     | no n ↦
         let E = nodes t .table in
@@ -67,7 +67,7 @@ module _ (t : Tree) where
     reflexive = ok .reflexive;
     transitive = ok .transitive;
     least = ok .least;
-    persistent = λ u v l lu lv k f. atom-persists m ok u v (atomAt (nodes t .table) (leafAt (letter l) (nodes t .table))) lu lv k f;
+    persistent = λ u v l lu lv k f. atom-persists m ok u v (atomAt (nodes t .table) (indexOf (letter l) (nodes t .table))) lu lv k f;
   }
 
   -- Worlds that are a countermodel refute the formula.
@@ -82,7 +82,7 @@ module _ (t : Tree) where
 
 -- ---- a text that is accepted, and its answer
 
-module _ (s : List ℕ) (t : Tree) (accepted : Accepted s t) (r : Settled) (u : Session) (holds : Holds t u (r .goal)) where
+module _ (s : List ℕ) (t : Formula) (accepted : Accepted s t) (r : Settled) (u : Session) (holds : Holds t u (r .goal)) where
   few : named (nodes t .table) ≤ mostNames
   few = omega (arith, accepted .size-right)
 

@@ -1,7 +1,7 @@
 -- "At each world of any model of these clauses, a name is forced exactly where its part is."
 use mathlib.Core.List.{List, []}
 use mathlib.Core.Logic.{_↔_}
-use mathlib.Core.Path.{_≡_, refl, sym, subst}
+use mathlib.Core.Path.{_≡_, refl, sym, _∙_, ap, subst}
 use Prim.Native.Nat.{ℕ, zero, suc, _<_}
 use native.Mathlib.Omega.{arith}
 use lib.Dec.{T}
@@ -10,9 +10,8 @@ use Rattle.ipl.specs.Lists.{All}
 use Rattle.ipl.specs.Formula.{Formula}
 use Rattle.ipl.specs.Kripke.{Model, IsModel, forcesAtom, ForcesFlat, ForcesImplication, forces}
 use Rattle.ipl.proofs.Soundness.{forced-atom}
-use Rattle.syntax.specs.Grammar.{Tree}
-use Rattle.syntax.specs.Nodes.{Entry, letter, falsum, compound, nodes, entryFormula, formulasAfter, formulaAt, Earlier, WellOrdered}
-use Rattle.syntax.proofs.Letters.{LettersOnce, letters-once}
+use Rattle.syntax.specs.Nodes.{Entry, letter, falsum, compound, indexOf, nodes, entryFormula, formulasAfter, formulaAt, Earlier, WellOrdered, Once}
+use Rattle.syntax.proofs.Once.{table-once}
 use Rattle.syntax.proofs.Stands.{row-formula, table-ordered}
 use Rattle.clausify.specs.Naming.{atomsOf, atomAt, calls}
 use Rattle.clausify.specs.Additions.{flatsBy, implicationsBy}
@@ -23,14 +22,14 @@ use Rattle.clausify.proofs.Atoms.{falsum-bot}
 use Rattle.clausify.proofs.Clauses.{ForcesAddition, calls-forced}
 use Rattle.clausify.proofs.Part.{Same, joined-forces, clauses-name}
 
-module _ (E : List Entry) (ordered : WellOrdered E) (once : LettersOnce E) (m : Model) (ok : IsModel m) (h : All (ForcesAddition m) (calls E)) where
+module _ (E : List Entry) (ordered : WellOrdered E) (once : Once E) (m : Model) (ok : IsModel m) (h : All (ForcesAddition m) (calls E)) where
   abbrev There : ℕ → Type 0
   There i = Same m (atomAt E i) (λ v. forces (onLetters E m) v (formulaAt E i))
 
   entry-there : (i : ℕ) → i < length E → ((j : ℕ) → j < i → There j) → (e : Entry) → getD E i falsum ≡ e
       → Same m (atomAt E i) (λ v. forces (onLetters E m) v (entryFormula (formulasAfter [] E) e))
   unfolding entryFormula forces formulaAt
-  entry-there i l ih (letter s) q v lv = rw (once i s l q) (λ t. t, λ t. t)
+  entry-there i l ih (letter s) q v lv = rw (ap (λ (x : Entry). indexOf x E) (sym q) ∙ once i l) (λ t. t, λ t. t)
   entry-there i l ih falsum q v lv = (λ t. forced-atom m v (atomAt E i) t (falsum-bot E i l q), λ t. absurd t)
   entry-there i l ih (compound c a b) q v lv =
       let early : (a < i) × (b < i) = subst (Earlier i) q (ordered i l) in
@@ -44,7 +43,7 @@ module _ (E : List Entry) (ordered : WellOrdered E) (once : LettersOnce E) (m : 
       subst (λ (p : Formula). Same m (atomAt E i) (λ v. forces (onLetters E m) v p)) (sym (row-formula E ordered i l))
       (entry-there i l (λ j lj. there k j (omega arith) (omega arith)) (getD E i falsum) refl)
 
-pub names-forced : (t : Tree) (m : Model) → IsModel m → All (ForcesFlat m (m .root)) (flatsBy (calls (nodes t .table))) → All (ForcesImplication m (m .root)) (implicationsBy (calls (nodes t .table)))
+pub names-forced : (t : Formula) (m : Model) → IsModel m → All (ForcesFlat m (m .root)) (flatsBy (calls (nodes t .table))) → All (ForcesImplication m (m .root)) (implicationsBy (calls (nodes t .table)))
     → (i : ℕ) → i < length (nodes t .table) → (w : ℕ) → w < m .count → T (forcesAtom m w (atomAt (nodes t .table) i)) ↔ forces (onLetters (nodes t .table) m) w (formulaAt (nodes t .table) i)
 names-forced t m ok F X i l =
-    there (nodes t .table) (table-ordered t) (letters-once t) m ok (calls-forced m (calls (nodes t .table)) .1 (F, X)) (suc i) i (omega arith) l
+    there (nodes t .table) (table-ordered t) (table-once t) m ok (calls-forced m (calls (nodes t .table)) .1 (F, X)) (suc i) i (omega arith) l

@@ -12,7 +12,7 @@ use Rattle.ipl.specs.Range.{atomOrBot}
 use Rattle.ipl.specs.Book.{add, countInRange, opened}
 use Rattle.ipl.proofs.Range.{atom-in-range}
 use Rattle.ipl.proofs.Book.{Reached, opened-reached, after-reached}
-use Rattle.syntax.specs.Grammar.{Tree}
+use Rattle.ipl.specs.Formula.{Formula}
 use Rattle.syntax.specs.Nodes.{nodes, named}
 use Rattle.syntax.specs.Refusal.{mostNames}
 use Rattle.clausify.specs.Naming.{letterCount, atomsOf, calls, atomCount, textBook, goalOf}
@@ -27,7 +27,7 @@ pub opened-in-range : (n : ℕ) → 1 ≤ n → n ≤ limit → opened n ≡ rec
 unfolding opened countInRange
 opened-in-range n h k = rw (le-leb 1 n h, le-leb n limit k)
 
-module _ (t : Tree) (few : named (nodes t .table) ≤ mostNames) where
+module _ (t : Formula) (few : named (nodes t .table) ≤ mostNames) where
   count-in-range : (1 ≤ atomCount (nodes t .table)) × (atomCount (nodes t .table) ≤ limit)
   unfolding atomCount
   count-in-range = (omega arith, omega (arith, limit-least))
@@ -63,6 +63,6 @@ module _ (t : Tree) (few : named (nodes t .table) ≤ mostNames) where
       atom-in-range (named T) (atomCount T) (goalOf t) atoms-enough (atom-below T (named T) (nodes t .root) (omega arith))
 
 -- An opening and additions lead to the book of a text.
-pub text-reached : (t : Tree) → Reached (textBook t)
+pub text-reached : (t : Formula) → Reached (textBook t)
 unfolding textBook
 text-reached t = after-reached (map add (calls (nodes t .table))) (opened (atomCount (nodes t .table))) (opened-reached (atomCount (nodes t .table)))

@@ -65,19 +65,19 @@ pub refused-as : (s : List ℕ) (o : Outcome) (p : Parts) → AnswersWith s o p 
 refused-as s o p h number place e = subst (λ (o : Outcome). AnswersWith s o p) e h .0
 
 module _ (s : List ℕ) (root : ℕ) (p : Parts) (h : Read s root p) where
-  few : named (nodes (h .tree) .table) ≤ mostNames
+  few : named (nodes (h .formula) .table) ≤ mostNames
   few = omega (arith, h .accepted .size-right)
 
   pub read-nameable : (n : Names) → NamesOf (held p) n → Nameable p n
   read-nameable n o = record {
     sound = h .sound;
-    ordered = subst WellOrdered (sym (h .table-is)) (table-ordered (h .tree));
+    ordered = subst WellOrdered (sym (h .table-is)) (table-ordered (h .formula));
     few = omega (arith, few, ap named (h .table-is), limit-least);
     names = o;
   }
 
   root-in : root < length (held p)
-  root-in = omega (arith, h .root-is, root-inside (h .tree), ap length (h .table-is))
+  root-in = omega (arith, h .root-is, root-inside (h .formula), ap length (h .table-is))
 
   pub root-row : root < room
   root-row = omega (arith, root-in, held-length p (h .sound), h .sound .bounded)
@@ -87,11 +87,11 @@ module _ (s : List ℕ) (root : ℕ) (p : Parts) (h : Read s root p) where
   unfolding goalOf
   read-clausified n o l q e nothing =
       subst (λ (j : Judgement). ClausifiedAs j (record { refusal = 0; place = 0; session = q; goal = getD (n .atoms) root 0 }))
-      (sym (judge-only s (accepted (h .tree)) (h .accepted))) (
+      (sym (judge-only s (accepted (h .formula)) (h .accepted))) (
         refl,
         refl,
         record {
-          clauses = e ∙ ap tableBook (h .table-is) ∙ sym (text-book (h .tree) few);
+          clauses = e ∙ ap tableBook (h .table-is) ∙ sym (text-book (h .formula) few);
           nothing = nothing;
           goal = read-within (n .atoms) root 0 bot (omega (arith, root-row, l)) ∙ o .atoms root root-in ∙ ap₂ atomAt (h .table-is) (h .root-is);
         },

@@ -12,8 +12,9 @@ use Rattle.prover.specs.Demand.{Made, Run, Follows}
 use Rattle.prover.specs.declared.Session.{Session}
 use Rattle.prover.specs.declared.Verdict.{Verdict}
 use Rattle.prover.specs.declared.Verdict.the-variants.{Valid, Refuted, Refused}
-use Rattle.syntax.specs.Grammar.{Tree, opened, Reads}
-use Rattle.syntax.specs.Nodes.{Entry, letter, leafAt, nodes}
+use Rattle.ipl.specs.Formula.{Formula}
+use Rattle.syntax.specs.Grammar.{Reads}
+use Rattle.syntax.specs.Nodes.{Entry, letter, indexOf, nodes}
 use Rattle.syntax.specs.Refusal as text
 use Rattle.syntax.specs.Judge.{Judgement, refused, accepted, judge}
 use Rattle.clausify.specs.Naming.{atomAt, textBook, goalOf}
@@ -23,19 +24,19 @@ use Rattle.clausify.specs.declared.Settled.{Settled}
 
 -- A model of atoms "read on the letters": each letter of the table is forced where its atom is.
 abbrev pub onLetters : List Entry → Model → Model
-onLetters T m = record { count = m .count; root = m .root; le = m .le; holds = λ w l. forcesAtom m w (atomAt T (leafAt (letter l) T)) }
+onLetters T m = record { count = m .count; root = m .root; le = m .le; holds = λ w l. forcesAtom m w (atomAt T (indexOf (letter l) T)) }
 
--- The worlds shown, read on the letters, are a model whose root does not force the formula of t.
-pub record Refutes (t : Tree) (W : List ℕ) : Type 0 where
-  pub model : IsModel (onLetters (nodes t .table) (shown W))
-  pub unforced : forces (onLetters (nodes t .table) (shown W)) 0 (opened t) → ⊥
+-- The worlds shown, read on the letters, are a model whose root does not force the formula.
+pub record Refutes (f : Formula) (W : List ℕ) : Type 0 where
+  pub model : IsModel (onLetters (nodes f .table) (shown W))
+  pub unforced : forces (onLetters (nodes f .table) (shown W)) 0 f → ⊥
 
 -- Valid: the root of every finite Kripke model forces the formula. Refuted: the worlds shown refute it. Refused: a refusal of
 -- the text, or the search met 11 or 12.
 abbrev pub Says : List ℕ → Verdict → List ℕ → Type 0
-Says s (Valid steps) W = (t : Tree) × Reads s t × ((m : Model) → IsModel m → forces m (m .root) (opened t))
-Says s (Refuted worlds) W = (t : Tree) × Reads s t × Refutes t W
-Says s (Refused number place) W = text.Refused s number place ⊎ ((t : Tree) × text.Accepted s t × ((number ≡ 11) ⊎ (number ≡ 12)))
+Says s (Valid steps) W = (f : Formula) × Reads s f × ((m : Model) → IsModel m → forces m (m .root) f)
+Says s (Refuted worlds) W = (f : Formula) × Reads s f × Refutes f W
+Says s (Refused number place) W = text.Refused s number place ⊎ ((f : Formula) × text.Accepted s f × ((number ≡ 11) ⊎ (number ≡ 12)))
 
 -- For every text, and every answer as the contract states it.
 abbrev pub DemandTwo : Type 0
@@ -45,7 +46,7 @@ DemandTwo = (s : List ℕ) (r : Settled) → SettledAs (judge s) r → Says s (r
 -- one has that of the empty session of one atom.
 abbrev pub bookOf : Judgement → Book
 bookOf (refused number place) = B.opened 1
-bookOf (accepted t) = textBook t
+bookOf (accepted f) = textBook f
 
 -- Every run of calls on the session follows the book.
 abbrev pub EveryRunFollows : Book → Session → Type 0
@@ -54,9 +55,9 @@ EveryRunFollows k s = (cs : List Made) (run : Run s cs) → Follows k s cs run
 -- The verdict is the answer of the text's book to its goal, and the session follows the book that the question leaves.
 abbrev pub SettledFollows : Judgement → Settled → Type 0
 SettledFollows (refused number place) r = EveryRunFollows (B.opened 1) (r .session)
-SettledFollows (accepted t) r =
-    VerdictIs (goalOf t) (answer (textBook t) (goalOf t)) (record { verdict = r .verdict; session = r .session })
-    × EveryRunFollows (next (textBook t) (B.question (goalOf t))) (r .session)
+SettledFollows (accepted f) r =
+    VerdictIs (goalOf f) (answer (textBook f) (goalOf f)) (record { verdict = r .verdict; session = r .session })
+    × EveryRunFollows (next (textBook f) (B.question (goalOf f))) (r .session)
 
 -- "So demand 3 reaches it": for every text, refused or not, the session of its clauses, and the one that its verdict came with.
 pub record DemandThree (s : List ℕ) : Type 0 where

@@ -8,7 +8,7 @@ use Rattle.atoms.specs.Sets.{union}
 use Rattle.ipl.specs.Lists.{any}
 use Rattle.ipl.specs.Clause.{bot, one}
 use Rattle.ipl.specs.Book.{Book, Addition, addFlat, addImplication, add, opened, after}
-use Rattle.syntax.specs.Grammar.{Tree}
+use Rattle.ipl.specs.Formula.{Formula}
 use Rattle.syntax.specs.Nodes.{Connective, And, Or, Implies, Entry, letter, falsum, compound, nodes, named}
 
 unfoldable pub letterCount : List Entry → ℕ
@@ -66,9 +66,9 @@ unfoldable pub atomCount : List Entry → ℕ
 atomCount T = max 1 (named T)
 
 -- "A text's session holds what an opening with its n and the additions of its clauses, in the order given below, would bring."
-unfoldable pub textBook : Tree → Book
-textBook t = after (opened (atomCount (nodes t .table))) (map add (calls (nodes t .table)))
+unfoldable pub textBook : Formula → Book
+textBook f = after (opened (atomCount (nodes f .table))) (map add (calls (nodes f .table)))
 
 -- "The goal is the atom of the whole."
-unfoldable pub goalOf : Tree → ℕ
-goalOf t = atomAt (nodes t .table) (nodes t .root)
+unfoldable pub goalOf : Formula → ℕ
+goalOf f = atomAt (nodes f .table) (nodes f .root)

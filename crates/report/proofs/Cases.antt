@@ -13,9 +13,9 @@ use Rattle.ipl.specs.Question.{counters, least, ask}
 use Rattle.ipl.specs.Search as fixed
 use Rattle.ipl.specs.Book as book
 use Rattle.syntax.specs.Class as class
-use Rattle.syntax.specs.Grammar.{Tree, letter}
+use Rattle.ipl.specs.Formula.{Formula, letter}
 use Rattle.syntax.specs.Reading as reader
-use Rattle.syntax.specs.Nodes.{sameLeaf, leafAt, withLeaf, withCompound, withTree, nodes, named}
+use Rattle.syntax.specs.Nodes.{same, indexOf, withEntry, withFormula, nodes, named}
 use Rattle.syntax.specs.Scan.{move, fitting}
 use Rattle.syntax.specs.Judge.{accepted, deepAfter, judge}
 use Rattle.clausify.specs.Naming as naming
@@ -29,14 +29,14 @@ use Rattle.report.specs.Report.{figures, stepLine, worldLine, validRepor
 use Rattle.report.specs.Printed.{printedEnd, printedAs, printed, sheetBytes, sheetAs, sheet}
 use Rattle.report.specs.Cases.{Passes, Holds, tildes, cases}
 
-passes-naming : (s : List ℕ) (t : Tree) (n : ℕ) → judge s ≡ accepted t → named (nodes t .table) ≤ 64 → atomCount (nodes t .table) ≡ n → Passes n (judge s)
+passes-naming : (s : List ℕ) (t : Formula) (n : ℕ) → judge s ≡ accepted t → named (nodes t .table) ≤ 64 → atomCount (nodes t .table) ≡ n → Passes n (judge s)
 passes-naming s t n e few count =
     subst (Passes n) (sym e) (count, subst (λ (m : ℕ). Unrefused (book.opened m) (calls (nodes t .table))) count (text-unrefused t few))
 
 pub ten-cases : All Holds cases
 unfolding ascii decimalWithin decimal figures stepLine worldLine refusal validReport refutedReport printedEnd printedAs printed
     sheetBytes sheetAs sheet judge deepAfter move fitting class.classOf class.tokens class.after reader.negated reader.shut
-    reader.finish reader.readToken reader.result reader.reading sameLeaf leafAt withLeaf withCompound withTree nodes named
+    reader.finish reader.readToken reader.result reader.reading same indexOf withEntry withFormula nodes named
     naming.letterCount naming.atomsFrom naming.atomsOf naming.setOf naming.clause naming.partCalls naming.callsFrom calls
     atomCount naming.textBook naming.goalOf book.countInRange book.opened book.flatsFull book.flatRefusal
     book.implicationRefusal book.additionRefusal book.goalRefusal book.answer book.numberOf book.refusal book.added book.stepsAfter

@@ -23,7 +23,7 @@ use Rattle.ipl.proofs.Limits.{Fits, Ended}
 use Rattle.ipl.proofs.Book.{Reached, goal-taken, answer-right, question-ended}
 use Rattle.prover.specs.Calls.{totalAfter}
 use Rattle.prover.proofs.Answers.{answer-refused}
-use Rattle.syntax.specs.Grammar.{Tree}
+use Rattle.ipl.specs.Formula.{Formula}
 use Rattle.syntax.specs.Nodes.{nodes, named}
 use Rattle.syntax.specs.Refusal as text
 use Rattle.syntax.specs.Judge as judgement
@@ -141,7 +141,7 @@ module _ (k : Book) (g total : ℕ) (r : Reached k) where
         (omega (arith, goal-number k g, refusal-length (eqb (goalRefusal k g) 3) 1 3 (goalRefusal k g) 0 (omega (arith, goal-number k g)) (omega arith)))
   ]
 
-text-ended : (t : Tree) → named (nodes t .table) ≤ 64 → Ended (answer (textBook t) (goalOf t))
+text-ended : (t : Formula) → named (nodes t .table) ≤ 64 → Ended (answer (textBook t) (goalOf t))
 text-ended t few =
     let goal-ok : T (atomOrBot (textBook t .n) (goalOf t)) = rw (ap (λ (b : Book). b .n) (text-book t few)) (goal-in-range t few) in
     question-ended (textBook t) (goalOf t) (text-reached t) (goal-taken (textBook t) (goalOf t) goal-ok)

@@ -12,7 +12,7 @@ use Rattle.prover.specs.declared.Session.{Session}
 use Rattle.prover.specs.declared.Verdict.{Verdict}
 use Rattle.prover.specs.declared.Answered.{Answered}
 use Rattle.prover.proofs.DemandThree.{nothing-in-range, asked-as}
-use Rattle.syntax.specs.Grammar.{Tree}
+use Rattle.ipl.specs.Formula.{Formula}
 use Rattle.syntax.specs.Judge as judgement
 use Rattle.syntax.specs.Judge.{Judgement, judge}
 use Rattle.clausify.specs.Naming.{textBook, goalOf}
@@ -36,7 +36,7 @@ module _ (s : Session) (g : ℕ) (r : Answered) where
   answer-printed (refused number) a = ap (λ (v : Verdict). reportBy v (r .session)) (a .0)
   answer-printed unfinished a = absurd (a .0)
 
-settled-printed : (t : Tree) (r : Settled) (s : Session) → Holds t s (r .goal) → Asked s (r .goal) (record { verdict = r .verdict; session = r .session })
+settled-printed : (t : Formula) (r : Settled) (s : Session) → Holds t s (r .goal) → Asked s (r .goal) (record { verdict = r .verdict; session = r .session })
     → reportOf r ≡ printedEnd (textBook t .n) 0 (answer (textBook t) (goalOf t))
 settled-printed t r s holds a =
     let x : Answered = record { verdict = r .verdict; session = r .session } in

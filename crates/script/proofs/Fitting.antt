@@ -19,7 +19,7 @@ use Rattle.ipl.specs.Book.{openRefusal, flatsFull, flatRefusal, implicationRefu
 use Rattle.ipl.proofs.Range.{AtomOrBot, atom-or-bot}
 use Rattle.prover.specs.State.{book}
 use Rattle.prover.specs.declared.Session.{Session}
-use Rattle.syntax.specs.Grammar.{Tree}
+use Rattle.ipl.specs.Formula.{Formula}
 use Rattle.syntax.specs.Nodes.{nodes, named}
 use Rattle.syntax.specs.Refusal.{mostNames}
 use Rattle.syntax.specs.Judge as text
@@ -98,7 +98,7 @@ return-number k j =
 
 -- ---- texts
 
-goal-small : (t : Tree) → named (nodes t .table) ≤ mostNames → goalOf t ≤ 255
+goal-small : (t : Formula) → named (nodes t .table) ≤ mostNames → goalOf t ≤ 255
 goal-small t few = go (atom-or-bot (textBook t .n) (goalOf t) in-range)
   where
     in-range : T (atomOrBot (textBook t .n) (goalOf t))

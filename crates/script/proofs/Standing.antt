@@ -78,13 +78,13 @@ number-told (line-4 a b c d) = refl
 module _ (t : List ℕ) (r : Clausified) where
   clausified-line : (j : text.Judgement) → text.Right t j → ClausifiedAs j r → clausifiedLine (r .refusal) (r .place) (r .goal) ≡ textLine j
   clausified-line (text.refused number place) right h = rw (h .0, h .1, number-told right)
-  clausified-line (text.accepted tree) right h = rw (h .0, h .2 .goal)
+  clausified-line (text.accepted f) right h = rw (h .0, h .2 .goal)
 
   text-reaches : (j : text.Judgement) → text.Right t j → ClausifiedAs j r
       → Reaches (fresh (bookOf j)) (textLine j) (r .session) (clausifiedLine (r .refusal) (r .place) (r .goal))
   text-reaches (text.refused number place) right h =
       fresh-reached (opened-reached 1) (h .2 .clauses) (h .2 .nothing) (clausified-line (text.refused number place) right h)
-  text-reaches (text.accepted tree) right h = fresh-reached (text-reached tree) (h .2 .clauses) (h .2 .nothing) (clausified-line (text.accepted tree) right h)
+  text-reaches (text.accepted f) right h = fresh-reached (text-reached f) (h .2 .clauses) (h .2 .nothing) (clausified-line (text.accepted f) right h)
 
 -- ---- calls of the book
 

@@ -9,7 +9,8 @@ use lib.ListN.{length, take, replicate}
 use borrow.Author.Tests.{eqb-false}
 use Rattle.syntax.specs.Class.{Class, foreign, closing, ampersand, bar, greater, equals, blank, tilde, opening, nought, lowercase, classOf, tokens, after}
 use Rattle.syntax.specs.Code.{codeOf}
-use Rattle.syntax.specs.Grammar.{Tree, negation, implication, equivalence, Parses, a-letter, a-falsum, inside, no-and, no-or, no-implies, by-equal, IsFormula, Begins}
+use Rattle.ipl.specs.Formula.{Formula}
+use Rattle.syntax.specs.Grammar.{negation, implication, equivalence, Parses, a-letter, a-falsum, inside, no-and, no-or, no-implies, by-equal, IsFormula, Begins}
 use Rattle.syntax.specs.Refusal.{Longest}
 use Rattle.syntax.specs.Scan.{State, misfit, wanted, had, start, move, ends, unlessMisfit, fitting, scanned}
 use Rattle.syntax.proofs.Class.{blank-byte, tokens-append, after-append, after-tokens}
@@ -106,7 +107,7 @@ pub scan-tokens : (s : List ℕ) → scanned s ≡ after move start (tokens s)
 scan-tokens s = after-tokens move blank-stays start s
 
 -- The scan ends with no operand wanted and nothing open exactly on formulas.
-formula-ends : {u : List Class} {t : Tree} → Parses equivalence u t → ends (after move start u) ≡ true
+formula-ends : {u : List Class} {t : Formula} → Parses equivalence u t → ends (after move start u) ≡ true
 formula-ends r = ap ends (parse-runs r [] .1)
 
 pub formula-scanned : (s : List ℕ) → IsFormula s → ends (scanned s) ≡ true

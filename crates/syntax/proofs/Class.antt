@@ -1,5 +1,5 @@
 -- Laws of classes: from a number back to its class, a byte's class, what spaces leave, and the fold over a text.
-use mathlib.Core.Bool.{Bool, true, false, cond, _&&_}
+use mathlib.Core.Bool.{true, false, cond, _&&_}
 use mathlib.Core.List.{List, [], _∷_, _++_, map}
 use mathlib.Core.Logic.{_⊎_, inl, inr}
 use mathlib.Core.Path.{_≡_, refl, sym, _∙_, ap, subst}
@@ -9,11 +9,11 @@ use native.Mathlib.Omega.{arith}
 use lib.Dec.{eqb, leb, leb→le}
 use lib.ListN.{length, getD, drop, drop-of-length-le}
 use lib.Seq.{drop-cons}
-use borrow.Author.Tests.{eqb-true, eqb-false, eq-eqb, ne-eqb, leb-true, le-leb, lt-leb}
+use borrow.Author.Tests.{eqb-true, eqb-false, eq-eqb, ne-eqb, le-leb, lt-leb}
 use Rattle.atoms.proofs.Truth.{by-cond, T-left, T-right, true-T}
 use Rattle.syntax.specs.Class.{Class, foreign, closing, ampersand, bar, greater, equals, blank, tilde, opening, nought, lowercase}
 use Rattle.syntax.specs.Class.{classOf, tokens, after}
-use Rattle.syntax.specs.Code.{codeOf, decode, classCount, joins, isLetter, isLeaf}
+use Rattle.syntax.specs.Code.{codeOf, decode, joins, isLetter, isLeaf}
 use Rattle.syntax.specs.Descent.{rest}
 
 -- What holds of each class, given its bytes or its number, holds of the class of every byte and of every number.
@@ -49,19 +49,9 @@ module _ (P : Class → Type 0) (n : ℕ) where
       next-number 3 _ _ n3 f3 (λ n4. next-number 4 _ _ n4 f4 (λ n5. next-number 5 _ _ n5 f5 (λ n6.
       next-number 6 _ _ n6 f6 (λ n7. next-number 7 _ _ n7 f7 (λ n8. next-number 8 _ _ n8 f8 (λ n9. next-number 9 _ _ n9 f9 l)))))))))
 
-abbrev Small : Class → Type 0
-Small c = codeOf c < classCount
-
-pub code-small : (b : ℕ) → codeOf (classOf b) < classCount
-unfolding codeOf
-code-small b =
-    by-byte Small b
-    (λ _. omega arith) (λ _. omega arith) (λ _. omega arith) (λ _. omega arith) (λ _. omega arith) (λ _. omega arith)
-    (λ _. omega arith) (λ _. omega arith) (λ _. omega arith) (λ low high. omega arith) (omega arith)
-
 -- The tests by a class's number.
 module _ (n : ℕ) where
-  pub decode-letter : 10 ≤ n → decode n ≡ lowercase (n - 10)
+  decode-letter : 10 ≤ n → decode n ≡ lowercase (n - 10)
   decode-letter h =
       by-number (λ (c : Class). c ≡ lowercase (n - 10)) n
       (λ e. absurd (omega arith)) (λ e. absurd (omega arith)) (λ e. absurd (omega arith)) (λ e. absurd (omega arith)) (λ e. absurd (omega arith))
@@ -75,9 +65,6 @@ module _ (n : ℕ) where
       (λ e. lt-leb 10 n (omega arith)) (λ e. lt-leb 10 n (omega arith)) (λ e. lt-leb 10 n (omega arith)) (λ e. lt-leb 10 n (omega arith))
       (λ e. lt-leb 10 n (omega arith)) (λ e. lt-leb 10 n (omega arith)) (λ e. lt-leb 10 n (omega arith)) (λ e. lt-leb 10 n (omega arith))
       (λ e. lt-leb 10 n (omega arith)) (λ e. lt-leb 10 n (omega arith)) (λ h. le-leb 10 n h)
-
-  pub letter-number : isLetter (decode n) ≡ true → 10 ≤ n
-  letter-number e = leb-true 10 n (letter-test ∙ e)
 
   pub leaf-letter : (n ≡ 9 → ⊥) → isLetter (decode n) ≡ isLeaf (decode n)
   unfolding isLetter isLeaf
@@ -120,9 +107,6 @@ decode-code (lowercase l) = decode-letter (10 + l) (omega arith) ∙ ap lowercas
 pub class-is : (c : Class) (n : ℕ) → n ≡ codeOf c → c ≡ decode n
 class-is c n e = sym (decode-code c) ∙ ap decode (sym e)
 
-pub letter-is : (c : Class) (n : ℕ) → n ≡ codeOf c → 10 ≤ n → c ≡ lowercase (n - 10)
-letter-is c n e h = class-is c n e ∙ decode-letter n h
-
 -- The byte of each class that is not foreign.
 abbrev byteOf : Class → ℕ
 byteOf foreign = 0
@@ -149,19 +133,6 @@ blank-byte b e = byte-is b 6 e (omega arith)
 
 pub opening-byte : (b : ℕ) → codeOf (classOf b) ≡ 8 → b ≡ 40
 opening-byte b e = byte-is b 8 e (omega arith)
-
--- No token is a space.
-pub no-blank : (s : List ℕ) (c : Class) (l : List Class) → tokens s ≡ c ∷ l → c ≡ blank → ⊥
-unfolding tokens codeOf
-no-blank [] c l e k = let z : _≡_ {A = ℕ} 0 1 = cc in omega arith
-no-blank (b ∷ s) c l e k = go (λ f. no-blank s c l f k) (eqb b 32) refl e
-  where
-    first : {x y : Class} {u v : List Class} → x ∷ u ≡ y ∷ v → x ≡ y
-    first q = cc
-
-    go : (tokens s ≡ c ∷ l → ⊥) → (t : Bool) → eqb b 32 ≡ t → cond t (tokens s) (classOf b ∷ tokens s) ≡ c ∷ l → ⊥
-    go ih true q f = ih f
-    go ih false q f = eqb-false b 32 q (blank-byte b (ap codeOf (first f ∙ k)))
 
 -- The tokens from a position on.
 module _ (s : List ℕ) (i : ℕ) where

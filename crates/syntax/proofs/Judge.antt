@@ -11,12 +11,12 @@ use lib.ListN.{length, take}
 use borrow.Author.Tests.{eqb-true, eqb-false, ltb-true, ltb-false, lt-ltb, le-ltb}
 use Rattle.atoms.proofs.Truth.{by-cond, nor, T-or, true-T, T-true}
 use Rattle.syntax.specs.Class.{classOf}
-use Rattle.syntax.specs.Grammar.{Tree}
+use Rattle.ipl.specs.Formula.{Formula}
 use Rattle.syntax.specs.Reading.{reading}
 use Rattle.syntax.specs.Nodes.{nodes, named}
 use Rattle.syntax.specs.Refusal.{mostBytes, BadLength, count, mostOpen, mostNames, TooDeep, Longest, line-1, line-2, line-3, line-4}
 use Rattle.syntax.specs.Scan.{start, fitting}
-use Rattle.syntax.specs.Judge.{Judgement, refused, accepted, isByte, deepAfter, judgeTree, judge, Right}
+use Rattle.syntax.specs.Judge.{Judgement, refused, accepted, isByte, deepAfter, judgeReading, judge, Right}
 use Rattle.syntax.proofs.Unique.{reading-of, reading-reads}
 use Rattle.syntax.proofs.Beginning.{longest}
 
@@ -69,12 +69,12 @@ module _ (s : List ℕ) where
       go (x, y) (inr h) = omega (arith, ltb-false mostBytes (length s) y)
 
   module _ (l : BadLength s → ⊥) (d : TooDeep s → ⊥) where
-    tree-right : (o : Option Tree) → reading s ≡ o → Right s (judgeTree (fitting start (map classOf s)) o)
-    tree-right none e = line-3 l d (λ f. no-reading (sym e ∙ reading-of s (f .0) (f .1))) (longest s)
+    formula-right : (o : Option Formula) → reading s ≡ o → Right s (judgeReading (fitting start (map classOf s)) o)
+    formula-right none e = line-3 l d (λ f. no-reading (sym e ∙ reading-of s (f .0) (f .1))) (longest s)
       where
-        no-reading : {t : Tree} → none ≡ some t → ⊥
+        no-reading : {t : Formula} → none ≡ some t → ⊥
         no-reading q = let z : _≡_ {A = ℕ} 0 1 = cc in omega arith
-    tree-right (some t) e = by-cond (Right s) (ltb mostNames (named (nodes t .table))) (refused 4 0) (accepted t)
+    formula-right (some t) e = by-cond (Right s) (ltb mostNames (named (nodes t .table))) (refused 4 0) (accepted t)
         (λ h. line-4 l d (reading-reads s t e) (ltb-true _ _ h))
         (λ h. record { length-right = l; depth-right = d; reads = reading-reads s t e; size-right = λ z. omega (arith, ltb-false mostNames (named (nodes t .table)) h) })
 
@@ -83,23 +83,23 @@ module _ (s : List ℕ) where
   unfolding judge
   judge-right =
       by-cond (Right s) (eqb (length s) 0 || ltb mostBytes (length s)) _ _ (λ e. line-1 (bad-length e))
-      (λ e. by-cond (Right s) (deepAfter 0 0 s) _ _ (λ f. line-2 (good-length e) (deep f)) (λ f. tree-right (good-length e) (not-deep f) (reading s) refl))
+      (λ e. by-cond (Right s) (deepAfter 0 0 s) _ _ (λ f. line-2 (good-length e) (deep f)) (λ f. formula-right (good-length e) (not-deep f) (reading s) refl))
 
   -- ---- and it is the only right judgement
 
   longest-one : (a b : ℕ) → Longest s a → Longest s b → a ≡ b
   longest-one a b x y = omega (arith, x .last b (y .within) (y .begins), y .last a (x .within) (x .begins))
 
-  judge-reading : (BadLength s → ⊥) → (TooDeep s → ⊥) → (o : Option Tree) → reading s ≡ o → judge s ≡ judgeTree (fitting start (map classOf s)) o
+  judge-reading : (BadLength s → ⊥) → (TooDeep s → ⊥) → (o : Option Formula) → reading s ≡ o → judge s ≡ judgeReading (fitting start (map classOf s)) o
   unfolding judge
   judge-reading l d o e =
-      by-cond (λ (j : Judgement). j ≡ judgeTree (fitting start (map classOf s)) o) (eqb (length s) 0 || ltb mostBytes (length s)) _ _ (λ t. absurd (l (bad-length t)))
-      (λ t. by-cond (λ (j : Judgement). j ≡ judgeTree (fitting start (map classOf s)) o) (deepAfter 0 0 s) _ _ (λ f. absurd (d (deep f))) (λ f. rw e))
+      by-cond (λ (j : Judgement). j ≡ judgeReading (fitting start (map classOf s)) o) (eqb (length s) 0 || ltb mostBytes (length s)) _ _ (λ t. absurd (l (bad-length t)))
+      (λ t. by-cond (λ (j : Judgement). j ≡ judgeReading (fitting start (map classOf s)) o) (deepAfter 0 0 s) _ _ (λ f. absurd (d (deep f))) (λ f. rw e))
 
-  not-read : ((t : Tree) → reading s ≡ some t → ⊥) → reading s ≡ none
+  not-read : ((t : Formula) → reading s ≡ some t → ⊥) → reading s ≡ none
   not-read n = go (reading s) refl
     where
-      go : (o : Option Tree) → reading s ≡ o → o ≡ none
+      go : (o : Option Formula) → reading s ≡ o → o ≡ none
       go none e = refl
       go (some t) e = absurd (n t e)
 
@@ -112,7 +112,7 @@ module _ (s : List ℕ) where
       (λ t. by-cond (λ (j : Judgement). j ≡ refused 2 0) (deepAfter 0 0 s) _ _ (λ f. refl) (λ f. absurd (not-deep f d)))
   judge-only (refused number place) (line-3 l d n x) =
       judge-reading l d none (not-read (λ t e. n (t, reading-reads s t e))) ∙ ap (refused 3) (longest-one _ _ (longest s) x)
-  judge-only (refused number place) (line-4 {t} l d r z) =
+  judge-only (refused number place) (line-4 {f = t} l d r z) =
       judge-reading l d (some t) (reading-of s t r) ∙ rw (lt-ltb mostNames (named (nodes t .table)) z)
   judge-only (accepted t) a =
       judge-reading (a .length-right) (a .depth-right) (some t) (reading-of s t (a .reads)) ∙ rw (le-ltb mostNames (named (nodes t .table)) (omega (arith, a .size-right)))

@@ -1,252 +1,434 @@
 -- One law for each way in which a reader function reads an operand.
-use mathlib.Core.Bool.{Bool, true, false}
-use mathlib.Core.List.{List, [], _∷_, _++_, append-assoc}
+use mathlib.Core.Bool.{Bool, true, false, false≢true}
+use mathlib.Core.List.{List, _∷_}
 use mathlib.Core.Path.{_≡_, refl, sym, _∙_, ap, subst}
-use Prim.Native.Nat.{ℕ, _-_, _≤_, _<_}
-use native.Mathlib.Decide.{decLe}
+use Prim.Native.Nat.{ℕ, _+_, _≤_, _<_}
 use native.Mathlib.Omega.{arith}
 use borrow.Author.Tests.{eq-eqb, ne-eqb}
-use lib.ListN.{length, drop}
-use Rattle.syntax.specs.Class.{Class, closing, equals, blank, tilde, opening, nought, lowercase, after}
-use Rattle.syntax.specs.Code.{decode}
-use Rattle.syntax.specs.Grammar as grammar
-use Rattle.syntax.specs.Grammar.{Tree, Level, negation, conjunction, disjunction, implication, equivalence, Parses, a-letter, a-falsum}
-use Rattle.syntax.specs.Grammar.{by-not, inside, no-and, by-and, no-or, by-or, no-implies, by-implies, no-equal, by-equal}
-use Rattle.syntax.specs.Nodes.{Connective, And, Or, Implies, Entry, falsum, Named, withLeaf, withCompound, withEquivalence, withTree}
-use Rattle.syntax.specs.Scan.{State, wanted, had, move, ends}
-use Rattle.syntax.specs.Parts.{held, Holds, withNegation}
-use Rattle.syntax.specs.Descent.{rest, leafOf, PastSpaces, NextToken, Wanted, Operand, NotNext, Stops, Asks}
+use lib.ListN.{length}
+use Rattle.ipl.specs.Formula.{Formula, iff}
+use Rattle.syntax.specs.Class.{Class, closing, ampersand, bar, greater, equals, tilde, opening, nought, lowercase}
+use Rattle.syntax.specs.Code.{codeOf}
+use Rattle.syntax.specs.Grammar.{Level, negation, conjunction, disjunction, implication, equivalence}
+use Rattle.syntax.specs.Nodes.{Connective, And, Or, Implies, Entry, Named, withEntry, withFormula, connected, WellOrdered, Once}
+use Rattle.syntax.specs.Refusal.{mostNames}
+use Rattle.syntax.specs.Parts.{held, room, Sound, Holds, Names, Makes, withCompound, withNegation, withEquivalence}
+use Rattle.syntax.specs.Descent.{rest, headCode, tail, leafOf, PastSpaces, NextToken, NotNext, Stops, Stands, height, Exceeds, by-rows, by-height, Asks, Gives, Ends}
 use Rattle.syntax.specs.declared.Parts.{Parts}
 use Rattle.syntax.specs.declared.bytes.Token.{Token}
 use Rattle.syntax.specs.declared.table.Parsed.{Parsed}
-use Rattle.syntax.proofs.Class.{no-blank, after-append}
-use Rattle.syntax.proofs.Position.{head-is, head-letter}
-use Rattle.syntax.proofs.Held.{Fits, held-as, grows, compound-grows, leaf-grows, equivalence-grows}
-use Rattle.syntax.proofs.Run.{parse-runs, misfit-run, begins-operand, ends-or-closes, equated-once}
+use Rattle.syntax.proofs.Position.{token-is}
+use Rattle.syntax.proofs.Growth.{formula-grows, connected-named}
+use Rattle.syntax.proofs.Once.{formula-once}
+use Rattle.syntax.proofs.Stands.{formula-stands}
+use Rattle.syntax.proofs.Sharing.{equivalence-named}
+use Rattle.syntax.proofs.Names.{taller}
+use Rattle.syntax.proofs.Held.{made-sound, made-next, made-fit, compound-grows}
+use Rattle.syntax.proofs.Derivations.{Single, letter, falsum, not, enclosed, single, Run, done, more, First, run-goes-on, run-ends, first-and, first-or}
+use Rattle.syntax.proofs.Derivations.{Then, alone, both, Leads, then-goes-on, then-ends, leads-implies, leads-equal}
 
--- ---- what is held
+-- ---- two operands and what joins them
 
--- A step W over the tables that are held is the same step over those that they stand for.
-holds-unary : (n : Named) (r : Parsed) (W : List Entry → ℕ → Named) → ((T : List Entry) (a : ℕ) → length T ≤ length (W T a .table)) → (o : Parsed) → Holds n r
-    → Holds (W (held (r .parts)) (r .root)) o → Holds (W (n .table) (n .root)) o
-holds-unary n r W g o h k = held-as (W (held (r .parts)) (r .root)) (W (n .table) (n .root)) o same k
-  where
-    same : Fits (W (n .table) (n .root)) → W (held (r .parts)) (r .root) ≡ W (n .table) (n .root)
-    same w = let f : Fits n = omega (arith, g (n .table) (n .root)) in rw (h .table f, h .root f)
+-- A formula of two, and the step of the table that names it after both.
+record Joins (join : Formula → Formula → Formula) (W : ℕ → List Entry → ℕ → Named) : Type 0 where
+  means : (T : List Entry) → WellOrdered T → Once T → (g h : Formula)
+      → withFormula T (join g h) ≡ W (withFormula T g .root) (withFormula (withFormula T g .table) h .table) (withFormula (withFormula T g .table) h .root)
+  grows : (a : ℕ) (T : List Entry) (b : ℕ) → length T ≤ length (W a T b .table)
+  tall : (g h : Formula) → (height g < height (join g h)) × (height h < height (join g h))
 
-holds-binary : (T : List Entry) (p q : Tree) (l r : Parsed) (W : List Entry → ℕ → ℕ → Named) → ((U : List Entry) (a b : ℕ) → length U ≤ length (W U a b .table))
-    → (o : Parsed) → Holds (withTree T p) l → Holds (withTree (held (l .parts)) q) r → Holds (W (held (r .parts)) (l .root) (r .root)) o
-    → Holds (W (withTree (withTree T p .table) q .table) (withTree T p .root) (withTree (withTree T p .table) q .root)) o
-holds-binary T p q l r W g o h i k = held-as (W (held (r .parts)) (l .root) (r .root)) (W (b .table) (a .root) (b .root)) o same k
-  where
-    a : Named
-    a = withTree T p
+connected-joins : (c : Connective) → Joins (connected c) (withCompound c)
+connected-joins c = record { means = λ T o s g h. connected-named T c g h; grows = compound-grows c; tall = taller c }
 
-    b : Named
-    b = withTree (a .table) q
+iff-joins : Joins iff withEquivalence
+unfolding withEquivalence connected
+iff-joins = record {
+  means = λ T o s g h. equivalence-named T o s g h;
+  grows = λ a T b.
+      let x = withCompound Implies a T b in
+      let y = withCompound Implies b (x .table) a in
+      omega (arith, compound-grows Implies a T b, compound-grows Implies b (x .table) a, compound-grows And (x .root) (y .table) (y .root));
+  tall = λ g h.
+      let there = taller Implies g h in
+      let whole = taller And (connected Implies g h) (connected Implies h g) in
+      (omega (arith, there .0, whole .0), omega (arith, there .1, whole .0));
+}
 
-    same : Fits (W (b .table) (a .root) (b .root)) → W (held (r .parts)) (l .root) (r .root) ≡ W (b .table) (a .root) (b .root)
-    same w =
-        let fb : Fits b = omega (arith, g (b .table) (a .root) (b .root)) in
-        let fa : Fits a = omega (arith, grows (a .table) q) in
-        let e : withTree (held (l .parts)) q ≡ b = ap (λ (U : List Entry). withTree U q) (h .table fa) in
-        let held-b : Holds b r = subst (λ (n : Named). Holds n r) e i in
-        rw (held-b .table fb, held-b .root fb, h .root fa)
+module _ (join : Formula → Formula → Formula) (W : ℕ → List Entry → ℕ → Named) (j : Joins join W) (T : List Entry) (ordered : WellOrdered T) (once : Once T) (d : ℕ) (g h : Formula) where
+  join-grows : length (withFormula (withFormula T g .table) h .table) ≤ length (withFormula T (join g h) .table)
+  join-grows = rw (j .means T ordered once g h) (j .grows (withFormula T g .root) (withFormula (withFormula T g .table) h .table) (withFormula (withFormula T g .table) h .root))
 
--- ---- positions
+  -- What is too large for a part is so for the whole.
+  left-exceeds : (e : ℕ) → e ≤ d + 1 → Exceeds T e g → Exceeds T d (join g h)
+  left-exceeds e few (by-rows k) = by-rows (omega (arith, formula-grows (withFormula T g .table) h, join-grows))
+  left-exceeds e few (by-height k) = by-height (omega (arith, j .tall g h .0))
 
-module _ (s : List ℕ) (at : ℕ) where
-  blank-free : (c : Class) (l : List Class) → rest s at ≡ c ∷ l → c ≡ blank → ⊥
-  blank-free c l = no-blank (drop at s) c l
+  -- The left one was read, and then the right one, within e connectives.
+  module _ (left right r : Parsed) (e : ℕ) (few : e ≤ d + 1) (x : Holds (withFormula T g) left) (read : right .fits ≡ true → Holds (withFormula (held (left .parts)) h) right)
+      (large : right .fits ≡ false → Exceeds (held (left .parts)) e h) (m : Makes (W (left .root)) right r) where
+    whole-named : right .fits ≡ true → Names (withFormula T (join g h)) (right .next) r
+    whole-named t =
+        let y : Holds (withFormula (withFormula T g .table) h) right = rw (x .table) at (read t) in
+        rw (j .means T ordered once g h) (rw (y .table, y .root, x .root) at (m .named t))
 
-  -- Past an operand the text still fits.
-  pub past : {k : Level} {p : Parts} {r : Parsed} → (w : Wanted s at) → (o : Operand k s at p r) → (x : State) → after move (wanted (w .equated) (w .outer)) (o .text) ≡ x
-      → ends (after move x (rest s (r .next))) ≡ true
-  past {r = r} w o x e =
-      ap ends (
-      ap (λ (y : State). after move y (rest s (r .next))) (sym e)
-      ∙ sym (after-append move (wanted (w .equated) (w .outer)) (o .text) (rest s (r .next)))
-      ∙ sym (ap (after move (wanted (w .equated) (w .outer))) (o .split))
-      )
-      ∙ w .fits
+    joined-holds : r .fits ≡ true → Holds (withFormula T (join g h)) r
+    joined-holds t = whole-named (made-fit _ right r m t) .holds t
 
-  -- A token after it.
-  module _ {k : Level} {p : Parts} {r : Parsed} (w : Wanted s at) (o : Operand k s at p r) (run : after move (wanted (w .equated) (w .outer)) (o .text) ≡ had (w .equated) (w .outer))
-      (t : Token) (next : NextToken s (r .next) t) (n : ℕ) (z : 0 < n) (e : t .class ≡ n) where
-    past-token : ends (after move (move (had (w .equated) (w .outer)) (decode n)) (rest s (t .next))) ≡ true
-    unfolding after
-    past-token = ap (λ (l : List Class). ends (after move (had (w .equated) (w .outer)) l)) (sym (head-is s (r .next) t next n e z)) ∙ past w o _ run
+    right-exceeds : Exceeds (withFormula T g .table) e h → Exceeds T d (join g h)
+    right-exceeds (by-rows k) = by-rows (omega (arith, join-grows))
+    right-exceeds (by-height k) = by-height (omega (arith, j .tall g h .1))
 
-    -- An operator wants another operand.
-    pub asks-after : move (had (w .equated) (w .outer)) (decode n) ≡ wanted (w .equated) (w .outer) → Asks s (t .next) (r .parts)
-    asks-after op = record {
-      wanted = record { equated = w .equated; outer = w .outer; fits = ap (λ (x : State). ends (after move x (rest s (t .next)))) (sym op) ∙ past-token; inside = next .inside };
-      sound = o .holds .sound;
-    }
-
-  -- An `=` wants one, and no other has stood.
-  pub wanted-equal : {p : Parts} {r : Parsed} (w : Wanted s at) (o : Operand implication s at p r) (t : Token) → NextToken s (r .next) t → t .class ≡ 5
-      → (v : Wanted s (t .next)) × (v .equated ≡ true)
-  unfolding move
-  wanted-equal w o t k e = go (w .equated) refl
-    where
-      go : (b : Bool) → w .equated ≡ b → (v : Wanted s (t .next)) × (v .equated ≡ true)
-      go true q = absurd (misfit-run (rest s (t .next)) (rw q at (past-token w o (parse-runs (o .parsed) (w .equated) (w .outer)) t k 5 (omega arith) e)))
-      go false q = (record { equated = true; outer = w .outer; fits = rw q at (past-token w o (parse-runs (o .parsed) (w .equated) (w .outer)) t k 5 (omega arith) e); inside = k .inside }, refl)
-
-  module _ (t : Token) (k : NextToken s at t) where
-    from-token : (w : Wanted s at) (n : ℕ) → 0 < n → t .class ≡ n → ends (after move (move (wanted (w .equated) (w .outer)) (decode n)) (rest s (t .next))) ≡ true
-    unfolding after
-    from-token w n z e = ap (λ (l : List Class). ends (after move (wanted (w .equated) (w .outer)) l)) (sym (head-is s at t k n e z)) ∙ w .fits
-
-    pub wanted-not : Wanted s at → t .class ≡ 7 → Wanted s (t .next)
-    unfolding move
-    wanted-not w e = record { equated = w .equated; outer = w .outer; fits = from-token w 7 (omega arith) e; inside = k .inside }
-
-    pub wanted-inside : Wanted s at → t .class ≡ 8 → Wanted s (t .next)
-    unfolding move
-    wanted-inside w e = record { equated = false; outer = w .equated ∷ w .outer; fits = from-token w 8 (omega arith) e; inside = k .inside }
-
-    pub operand-class : Wanted s at → 7 ≤ t .class
-    operand-class w = rw (k .class-is) (begins-operand (rest s at) (w .equated) (w .outer) (w .fits) blank-free)
-
--- After both sides of an `=` no other comes.
-pub equal-last : (s : List ℕ) (at : ℕ) {p q : Parts} {l r : Parsed} (w : Wanted s at) (x : Operand implication s at p l) (t : Token) → NextToken s (l .next) t → t .class ≡ 5
-    → Operand implication s (t .next) q r → NotNext equals (rest s (r .next))
-equal-last s at {r = r} w x t k e y =
-    let v = wanted-equal s at w x t k e in
-    let run = parse-runs (y .parsed) (v .0 .equated) (v .0 .outer) ∙ ap (λ (b : Bool). had b (v .0 .outer)) (v .1) in
-    equated-once (rest s (r .next)) (v .0 .outer) (past s (t .next) (v .0) y _ run)
-
--- ---- operands
-
-module _ (s : List ℕ) (at : ℕ) (p : Parts) where
-  -- An operand, an operator and an operand.
-  module _ (a b k : Level) (n : ℕ) (f : Tree → Tree → Tree) (W : List Entry → ℕ → ℕ → Named)
-      (rule : (u v : List Class) (x y : Tree) → Parses a u x → Parses b v y → Parses k (u ++ (decode n ∷ v)) (f x y))
-      (means : (T : List Entry) (x y : Tree) → withTree T (f x y) ≡ W (withTree (withTree T x .table) y .table) (withTree T x .root) (withTree (withTree T x .table) y .root))
-      (more : (U : List Entry) (i j : ℕ) → length U ≤ length (W U i j .table)) (z : 0 < n) where
-    joined : (l : Parsed) (t : Token) (r o : Parsed) → Operand a s at p l → NextToken s (l .next) t → t .class ≡ n → Operand b s (t .next) (l .parts) r
-        → o .next ≡ r .next → Holds (W (held (r .parts)) (l .root) (r .root)) o → Operand k s at p o
-    joined l t r o x c e y m h = record {
-      text = x .text ++ (decode n ∷ y .text);
-      tree = f (x .tree) (y .tree);
-      parsed = rule (x .text) (y .text) (x .tree) (y .tree) (x .parsed) (y .parsed);
-      split =
-          x .split
-          ∙ ap (λ (q : List Class). x .text ++ q) (head-is s (l .next) t c n e z ∙ ap (λ (q : List Class). decode n ∷ q) (y .split ∙ ap (λ (i : ℕ). y .text ++ rest s i) (sym m)))
-          ∙ sym (append-assoc (x .text) (decode n ∷ y .text) (rest s (o .next)));
-      forward = omega (arith, x .forward, c .forward (omega arith), y .forward);
-      inside = omega (arith, y .inside);
-      holds = rw (means (held p) (x .tree) (y .tree)) (holds-binary (held p) (x .tree) (y .tree) l r W more o (x .holds) (y .holds) h);
-    }
-
-  compound-more : (c : Connective) (U : List Entry) (i j : ℕ) → length U ≤ length (withCompound U c i j .table)
-  compound-more c U i j = omega (arith, compound-grows U c i j)
-
-  module _ (l : Parsed) (t : Token) (r o : Parsed) where
-    pub joined-and : Operand conjunction s at p l → NextToken s (l .next) t → t .class ≡ 2 → Operand negation s (t .next) (l .parts) r → o .next ≡ r .next
-        → Holds (withCompound (held (r .parts)) And (l .root) (r .root)) o → Operand conjunction s at p o
-    unfolding withTree
-    joined-and = joined conjunction negation conjunction 2 grammar.and (λ T i j. withCompound T And i j) (λ u v x y. by-and) (λ T x y. refl) (compound-more And) (omega arith) l t r o
-
-    pub joined-or : Operand disjunction s at p l → NextToken s (l .next) t → t .class ≡ 3 → Operand conjunction s (t .next) (l .parts) r → o .next ≡ r .next
-        → Holds (withCompound (held (r .parts)) Or (l .root) (r .root)) o → Operand disjunction s at p o
-    unfolding withTree
-    joined-or = joined disjunction conjunction disjunction 3 grammar.or (λ T i j. withCompound T Or i j) (λ u v x y. by-or) (λ T x y. refl) (compound-more Or) (omega arith) l t r o
-
-    pub joined-implies : Operand disjunction s at p l → NextToken s (l .next) t → t .class ≡ 4 → Operand implication s (t .next) (l .parts) r → o .next ≡ r .next
-        → Holds (withCompound (held (r .parts)) Implies (l .root) (r .root)) o → Operand implication s at p o
-    unfolding withTree
-    joined-implies =
-        joined disjunction implication implication 4 grammar.implies (λ T i j. withCompound T Implies i j) (λ u v x y. by-implies) (λ T x y. refl) (compound-more Implies)
-        (omega arith) l t r o
-
-    pub joined-equal : Operand implication s at p l → NextToken s (l .next) t → t .class ≡ 5 → Operand implication s (t .next) (l .parts) r → o .next ≡ r .next
-        → Holds (withEquivalence (held (r .parts)) (l .root) (r .root)) o → Operand equivalence s at p o
-    unfolding withTree
-    joined-equal = joined implication implication equivalence 5 grammar.equal withEquivalence (λ u v x y. by-equal) (λ T x y. refl) equivalence-grows (omega arith) l t r o
-
-  -- An operand of one level is one of the next.
-  raised : (a k : Level) → ((u : List Class) (x : Tree) → Parses a u x → Parses k u x) → (r : Parsed) → Operand a s at p r → Operand k s at p r
-  raised a k rule r x = record { text = x .text; tree = x .tree; parsed = rule (x .text) (x .tree) (x .parsed); split = x .split; forward = x .forward; inside = x .inside; holds = x .holds }
-
-  pub single-and : (r : Parsed) → Operand negation s at p r → Operand conjunction s at p r
-  single-and = raised negation conjunction (λ u x. no-and)
-
-  pub single-or : (r : Parsed) → Operand conjunction s at p r → Operand disjunction s at p r
-  single-or = raised conjunction disjunction (λ u x. no-or)
-
-  pub single-implies : (r : Parsed) → Operand disjunction s at p r → Operand implication s at p r
-  single-implies = raised disjunction implication (λ u x. no-implies)
-
-  pub single-equal : (r : Parsed) → Operand implication s at p r → Operand equivalence s at p r
-  single-equal = raised implication equivalence (λ u x. no-equal)
-
-  module _ (t : Token) (k : NextToken s at t) where
-    pub negated : (r o : Parsed) → t .class ≡ 7 → Operand negation s (t .next) p r → o .next ≡ r .next → Holds (withNegation (held (r .parts)) (r .root)) o → Operand negation s at p o
-    unfolding withTree withNegation
-    negated r o e x m h = record {
-      text = tilde ∷ x .text;
-      tree = grammar.implies (x .tree) grammar.falsum;
-      parsed = by-not (x .parsed);
-      split = head-is s at t k 7 e (omega arith) ∙ ap (λ (q : List Class). tilde ∷ q) (x .split ∙ ap (λ (i : ℕ). x .text ++ rest s i) (sym m));
-      forward = omega (arith, k .forward (omega arith), x .forward);
-      inside = omega (arith, x .inside);
-      holds = holds-unary (withTree (held p) (x .tree)) r withNegation negation-more o (x .holds) h;
-    }
+    joined-exceeds : r .fits ≡ false → Exceeds T d (join g h)
+    joined-exceeds f = go (right .fits) refl
       where
-        negation-more : (T : List Entry) (a : ℕ) → length T ≤ length (withNegation T a .table)
-        negation-more T a = let n = withLeaf T falsum in omega (arith, leaf-grows T falsum, compound-grows (n .table) Implies a (n .root))
+        go : (b : Bool) → right .fits ≡ b → Exceeds T d (join g h)
+        go true t = by-rows (whole-named t .full f)
+        go false t = right-exceeds (subst (λ (U : List Entry). Exceeds U e h) (x .table) (large t))
 
-    pub parenthesized : (r : Parsed) (c : Token) (n : ℕ) → Wanted s at → t .class ≡ 8 → Operand equivalence s (t .next) p r
-        → Stops equivalence (rest s (r .next)) → NextToken s (r .next) c → PastSpaces s (c .next) n
-        → Operand negation s at p (record { next = n; root = r .root; parts = r .parts })
-    unfolding wanted-inside
-    parenthesized r c n w e x st q g =
-        let run = parse-runs (x .parsed) (w .equated ∷ w .outer) in
-        let fits = past s (t .next) (wanted-inside s at t k w e) x (had (run .0) (w .equated ∷ w .outer)) (run .1) in
-        let closes = ends-or-closes (rest s (r .next)) (run .0) (w .equated ∷ w .outer) fits (blank-free s (r .next)) st in
-        let ec : c .class ≡ 1 = q .class-is ∙ sym closes in
-        record {
-          text = opening ∷ (x .text ++ (closing ∷ []));
-          tree = x .tree;
-          parsed = inside (x .parsed);
-          split =
-              head-is s at t k 8 e (omega arith)
-              ∙ ap (λ (y : List Class). opening ∷ y) (
-              x .split
-              ∙ ap (λ (y : List Class). x .text ++ y) (head-is s (r .next) c q 1 ec (omega arith) ∙ ap (λ (y : List Class). closing ∷ y) (sym (g .same)))
-              ∙ sym (append-assoc (x .text) (closing ∷ []) (rest s n))
-              );
-          forward = omega (arith, k .forward (omega arith), x .forward, q .forward (omega arith), g .forward);
-          inside = g .inside;
-          holds = record { sound = x .holds .sound; table = x .holds .table; root = x .holds .root };
-        }
+-- ---- the levels
 
-    module _ (o : Parsed) (n : ℕ) (g : PastSpaces s (t .next) n) (m : o .next ≡ n) where
-      leaf-operand : (c : Class) (x : Tree) → Parses negation (c ∷ []) x → rest s at ≡ c ∷ rest s (t .next) → 0 < t .class → Holds (withTree (held p) x) o → Operand negation s at p o
-      leaf-operand c x r e z h = record {
-        text = c ∷ [];
-        tree = x;
-        parsed = r;
-        split = e ∙ ap (λ (l : List Class). c ∷ l) (sym (g .same)) ∙ ap (λ (i : ℕ). c ∷ rest s i) (sym m);
-        forward = omega (arith, k .forward z, g .forward);
-        inside = omega (arith, g .inside);
-        holds = h;
+-- Level k: operands of level a, with the operator between them.
+pub record LeftGrouped (k a : Level) (op : Class) (c : Connective) : Type 0 where
+  first : (l : List Class) (f : Formula) (z : List Class) → Stands k l f z → First a op c l f z
+  stop : (z : List Class) → Stops k z → NotNext op z
+
+pub conjunctions : LeftGrouped conjunction negation ampersand And
+conjunctions = record { first = first-and; stop = λ z x. x }
+
+pub disjunctions : LeftGrouped disjunction conjunction bar Or
+disjunctions = record { first = first-or; stop = λ z x. x .1 }
+
+-- Level k: an operand of level a, alone or with the operator and one of level b.
+pub record RightGrouped (k a b : Level) (op : Class) (join : Formula → Formula → Formula) (W : ℕ → List Entry → ℕ → Named) : Type 0 where
+  joins : Joins join W
+  leads : (l : List Class) (f : Formula) (z : List Class) → Stands k l f z → Leads a b op join l f z
+  stop : (z : List Class) → Stops k z → NotNext op z
+
+pub implications : RightGrouped implication disjunction implication greater (connected Implies) (withCompound Implies)
+implications = record { joins = connected-joins Implies; leads = leads-implies; stop = λ z x. x .2 }
+
+pub equivalences : RightGrouped equivalence implication implication equals iff withEquivalence
+equivalences = record { joins = iff-joins; leads = leads-equal; stop = λ z x. x .3 }
+
+-- The leaf of a class.
+letter-leaf : (n k : ℕ) → n ≡ 10 + k → leafOf n ≡ Entry.letter k
+letter-leaf n k e = rw (ne-eqb n 9 (λ i. omega arith)) (ap Entry.letter (omega arith))
+
+falsum-leaf : (n : ℕ) → n ≡ 9 → leafOf n ≡ Entry.falsum
+falsum-leaf n e = rw (eq-eqb n 9 e)
+
+-- ---- the next operand
+
+module _ (s : List ℕ) (at : ℕ) (p : Parts) (d : ℕ) where
+  -- After one that was read, the next is asked for with its table.
+  asks-next : (k b : Level) → Asks k s at p d → (g : Formula) (left : Parsed) → Holds (withFormula (held p) g) left → Sound (left .parts) → (t : Token) → NextToken s (left .next) t
+      → (h : Formula) (z : List Class) → Stands b (rest s (t .next)) h z → (e : ℕ) → e ≤ mostNames → Asks b s (t .next) (left .parts) e
+  asks-next k b asked g left x sound t next h z y e few = record {
+    formula = h;
+    behind = z;
+    stands = y;
+    inside = next .inside;
+    sound = sound;
+    ordered = rw (x .table) (formula-stands g (held p) (asked .ordered) .ordered);
+    once = rw (x .table) (formula-once g (held p) (asked .once));
+    near = few;
+  }
+
+  asks-first : (k a : Level) → Asks k s at p d → (g : Formula) (z : List Class) → Stands a (rest s at) g z → Asks a s at p d
+  asks-first k a asked g z x =
+      record { formula = g; behind = z; stands = x; inside = asked .inside; sound = asked .sound; ordered = asked .ordered; once = asked .once; near = asked .near }
+
+  -- The reading ended at a connective within too many others.
+  ended-deep : (k : Level) (next : ℕ) (r : Parsed) (q : Parts) → Ends q next r → at < next → next ≤ length s → Sound q
+      → ((f : Formula) (z : List Class) → Stands k (rest s at) f z → mostNames < d + height f) → Gives k s at p d r
+  ended-deep k next r q e forward inside sound tall = record {
+    forward = rw (e .next-is) forward;
+    inside = rw (e .next-is) inside;
+    sound = rw (e .parts-are) sound;
+    read = λ f z x t. absurd (false≢true (sym (e .large) ∙ t));
+    large = λ f z x t. by-height (tall f z x);
+  }
+
+  -- ---- operators that group to the left
+
+  module _ {k a : Level} {op : Class} {c : Connective} (G : LeftGrouped k a op c) where
+    -- What was read so far continues to the whole; or the whole is too large.
+    pub record Reached (r : Parsed) : Type 0 where
+      pub forward : at < r .next
+      pub inside : r .next ≤ length s
+      pub sound : Sound (r .parts)
+      read : (f : Formula) (z : List Class) → Stands k (rest s at) f z → r .fits ≡ true → (g : Formula) × Run a op c g (rest s (r .next)) f z × Holds (withFormula (held p) g) r
+      large : (f : Formula) (z : List Class) → Stands k (rest s at) f z → r .fits ≡ false → Exceeds (held p) d f
+
+    pub asks-one : Asks k s at p d → Asks a s at p d
+    asks-one asked = let x = G .first (rest s at) (asked .formula) (asked .behind) (asked .stands) in asks-first k a asked (x .operand) (x .next) (x .stands)
+
+    module _ (asked : Asks k s at p d) where
+      run-exceeds : {g f : Formula} {m z : List Class} → Run a op c g m f z → Exceeds (held p) d g → Exceeds (held p) d f
+      run-exceeds done e = e
+      run-exceeds (more {g} {h} x r) e = run-exceeds r (left-exceeds (connected c) (withCompound c) (connected-joins c) (held p) (asked .ordered) (asked .once) d g h d (omega arith) e)
+
+      pub one-reached : (r : Parsed) → Gives a s at p d r → Reached r
+      one-reached r y = record {
+        forward = y .forward;
+        inside = y .inside;
+        sound = y .sound;
+        read = λ f z x t.
+            let w = G .first (rest s at) f z x in
+            let v = y .read (w .operand) (w .next) (w .stands) t in
+            (w .operand, subst (λ (m : List Class). Run a op c (w .operand) m f z) (sym (v .0)) (w .run), v .1);
+        large = λ f z x t.
+            let w = G .first (rest s at) f z x in
+            run-exceeds (w .run) (y .large (w .operand) (w .next) (w .stands) t);
       }
 
-      falsum-read : t .class ≡ 9 → Holds (withLeaf (held p) falsum) o → Operand negation s at p o
-      unfolding withTree
-      falsum-read e h = leaf-operand nought grammar.falsum a-falsum (head-is s at t k 9 e (omega arith)) (omega arith) h
+      -- An operator and an operand more.
+      module _ (left : Parsed) (was : Reached left) (fit : left .fits ≡ true) (t : Token) (next : NextToken s (left .next) t) (e : t .class ≡ codeOf op) where
+        comes : headCode (rest s (left .next)) ≡ codeOf op
+        comes = sym (next .class-is) ∙ e
 
-      letter-read : 10 ≤ t .class → Holds (withLeaf (held p) (Entry.letter (t .class - 10))) o → Operand negation s at p o
-      unfolding withTree
-      letter-read e h = leaf-operand (lowercase (t .class - 10)) (grammar.letter (t .class - 10)) a-letter (head-letter s at t k e) (omega arith) h
+        pub asks-more : Asks a s (t .next) (left .parts) d
+        asks-more =
+            let v = was .read (asked .formula) (asked .behind) (asked .stands) fit in
+            let w = run-goes-on a op c (v .1) (G .stop (asked .behind) (asked .stands .stops)) comes in
+            asks-next k a asked (v .0) left (v .2) (was .sound) t next (w .0) (w .1) (rw (next .left) (w .2)) d (asked .near)
 
-      -- ⊥ or a letter.
-      pub leaf-read : 9 ≤ t .class → Holds (withLeaf (held p) (leafOf (t .class))) o → Operand negation s at p o
-      leaf-read l h = elim (decLe (t .class) 9) [
-        | yes few ↦ falsum-read (omega arith) (subst (λ (x : Entry). Holds (withLeaf (held p) x) o) (rw (eq-eqb (t .class) 9 (omega arith))) h)
-        | no many ↦ letter-read (omega arith) (subst (λ (x : Entry). Holds (withLeaf (held p) x) o) (rw (ne-eqb (t .class) 9 (λ i. omega arith))) h)
-      ]
+        pub more-reached : (right r : Parsed) → left .next < t .next → Gives a s (t .next) (left .parts) d right → Makes (withCompound c (left .root)) right r → Reached r
+        more-reached right r on y m = record {
+          forward = omega (arith, was .forward, y .forward, made-next _ right r m);
+          inside = omega (arith, y .inside, made-next _ right r m);
+          sound = made-sound _ right r (y .sound) m;
+          read = λ f z x u.
+              let v = was .read f z x fit in
+              let w = run-goes-on a op c (v .1) (G .stop z (x .stops)) comes in
+              let q = y .read (w .0) (w .1) (rw (next .left) (w .2)) in
+              let behind = ap (rest s) (made-next _ right r m) ∙ q (made-fit _ right r m u) .0 in (
+                connected c (v .0) (w .0),
+                subst (λ (n : List Class). Run a op c (connected c (v .0) (w .0)) n f z) (sym behind) (w .3),
+                joined-holds (connected c) (withCompound c) (connected-joins c) (held p) (asked .ordered) (asked .once) d (v .0) (w .0) left right r d (omega arith) (v .2) (λ b. q b .1)
+                    (y .large (w .0) (w .1) (rw (next .left) (w .2))) m u,
+              );
+          large = λ f z x u.
+              let v = was .read f z x fit in
+              let w = run-goes-on a op c (v .1) (G .stop z (x .stops)) comes in
+              let q = y .read (w .0) (w .1) (rw (next .left) (w .2)) in
+              run-exceeds (w .3)
+              (joined-exceeds (connected c) (withCompound c) (connected-joins c) (held p) (asked .ordered) (asked .once) d (v .0) (w .0) left right r d (omega arith) (v .2) (λ b. q b .1)
+              (y .large (w .0) (w .1) (rw (next .left) (w .2))) m u);
+        }
+
+      -- No operator more; or no room.
+      pub reached-end : (left : Parsed) → Reached left → (left .fits ≡ true → NotNext op (rest s (left .next))) → Gives k s at p d left
+      reached-end left was ends = record {
+        forward = was .forward;
+        inside = was .inside;
+        sound = was .sound;
+        read = λ f z x u.
+            let v = was .read f z x u in
+            let w = run-ends a op c (v .1) (ends u) in
+            (w .1, subst (λ (g : Formula). Holds (withFormula (held p) g) left) (w .0) (v .2));
+        large = was .large;
+      }
+
+  -- ---- operators with one operand to the right
+
+  module _ {k a b : Level} {op : Class} {join : Formula → Formula → Formula} {W : ℕ → List Entry → ℕ → Named} (G : RightGrouped k a b op join W) where
+    pub asks-left : Asks k s at p d → Asks a s at p d
+    asks-left asked = let x = G .leads (rest s at) (asked .formula) (asked .behind) (asked .stands) in asks-first k a asked (x .operand) (x .next) (x .stands)
+
+    module _ (asked : Asks k s at p d) (left : Parsed) (y : Gives a s at p d left) where
+      then-exceeds : {g f : Formula} {m z : List Class} → Then b op join g m f z → Exceeds (held p) d g → Exceeds (held p) d f
+      then-exceeds (alone e q) x = subst (Exceeds (held p) d) e x
+      then-exceeds {g} (both h n q e i) x = subst (Exceeds (held p) d) (sym e) (left-exceeds join W (G .joins) (held p) (asked .ordered) (asked .once) d g h d (omega arith) x)
+
+      -- The left operand is the whole; or it has no room.
+      pub left-only : (left .fits ≡ true → NotNext op (rest s (left .next))) → Gives k s at p d left
+      left-only ends = record {
+        forward = y .forward;
+        inside = y .inside;
+        sound = y .sound;
+        read = λ f z x t.
+            let w = G .leads (rest s at) f z x in
+            let v = y .read (w .operand) (w .next) (w .stands) t in
+            let u = then-ends b op join (w .then) (subst (NotNext op) (v .0) (ends t)) in
+            (v .0 ∙ u .1, subst (λ (g : Formula). Holds (withFormula (held p) g) left) (u .0) (v .1));
+        large = λ f z x t.
+            let w = G .leads (rest s at) f z x in
+            then-exceeds (w .then) (y .large (w .operand) (w .next) (w .stands) t);
+      }
+
+      -- The operator comes.
+      module _ (fit : left .fits ≡ true) (t : Token) (next : NextToken s (left .next) t) (i : t .class ≡ codeOf op) where
+        -- What stands to its right.
+        record Right (f : Formula) (z : List Class) : Type 0 where
+          first : Formula
+          second : Formula
+          is : f ≡ join first second
+          holds : Holds (withFormula (held p) first) left
+          stands : Stands b (rest s (t .next)) second z
+
+        right-of : (f : Formula) (z : List Class) → Stands k (rest s at) f z → Right f z
+        right-of f z x =
+            let w = G .leads (rest s at) f z x in
+            let v = y .read (w .operand) (w .next) (w .stands) fit in
+            let u = then-goes-on b op join (w .then) (G .stop z (x .stops)) (sym (ap headCode (v .0)) ∙ sym (next .class-is) ∙ i) in
+            record { first = w .operand; second = u .0; is = u .1; holds = v .1; stands = subst (λ (l : List Class). Stands b l (u .0) z) (sym (next .left ∙ ap tail (v .0))) (u .2) }
+
+        pub asks-right : (e : ℕ) → e ≤ mostNames → Asks b s (t .next) (left .parts) e
+        asks-right e few =
+            let x = right-of (asked .formula) (asked .behind) (asked .stands) in
+            asks-next k b asked (x .first) left (x .holds) (y .sound) t next (x .second) (asked .behind) (x .stands) e few
+
+        pub deep-right : d ≡ mostNames → left .next < t .next → (r : Parsed) → Ends (left .parts) (t .next) r → Gives k s at p d r
+        deep-right full on r e = ended-deep k (t .next) r (left .parts) e (omega (arith, y .forward)) (next .inside) (y .sound) (λ f z x.
+            let w = right-of f z x in
+            omega (arith, ap height (w .is), G .joins .tall (w .first) (w .second) .0))
+
+        pub joined : (e : ℕ) → e ≤ d + 1 → left .next < t .next → (right r : Parsed) → Gives b s (t .next) (left .parts) e right → Makes (W (left .root)) right r → Gives k s at p d r
+        joined e few on right r q m = record {
+          forward = omega (arith, y .forward, q .forward, made-next _ right r m);
+          inside = omega (arith, q .inside, made-next _ right r m);
+          sound = made-sound _ right r (q .sound) m;
+          read = λ f z x u.
+              let w = right-of f z x in
+              let v = q .read (w .second) z (w .stands) in (
+                ap (rest s) (made-next _ right r m) ∙ v (made-fit _ right r m u) .0,
+                subst (λ (g : Formula). Holds (withFormula (held p) g) r) (sym (w .is))
+                    (joined-holds join W (G .joins) (held p) (asked .ordered) (asked .once) d (w .first) (w .second) left right r e few (w .holds) (λ h. v h .1) (q .large (w .second) z (w .stands)) m u),
+              );
+          large = λ f z x u.
+              let w = right-of f z x in
+              let v = q .read (w .second) z (w .stands) in
+              subst (Exceeds (held p) d) (sym (w .is))
+              (joined-exceeds join W (G .joins) (held p) (asked .ordered) (asked .once) d (w .first) (w .second) left right r e few (w .holds) (λ h. v h .1) (q .large (w .second) z (w .stands)) m u);
+        }
+
+  -- ---- `~`, parentheses, leaves
+
+  module _ (t : Token) (next : NextToken s at t) where
+    -- The operand by its first token.
+    pub leaf-class : Asks negation s at p d → (t .class ≡ 7 → ⊥) → (t .class ≡ 8 → ⊥) → 9 ≤ t .class
+    unfolding codeOf
+    leaf-class asked no-not no-paren = go (single (rest s at) (asked .formula) (asked .behind) (asked .stands))
+      where
+        go : Single (rest s at) (asked .formula) (asked .behind) → 9 ≤ t .class
+        go (letter k e l) = omega (arith, token-is s at t next (lowercase k) _ l .0)
+        go (falsum e l) = omega (arith, token-is s at t next nought _ l .0)
+        go (not g m e l x) = absurd (no-not (token-is s at t next tilde _ l .0))
+        go (enclosed m l x) = absurd (no-paren (token-is s at t next opening _ l .0))
+
+    -- A leaf.
+    pub leaf-gives : Asks negation s at p d → (t .class ≡ 7 → ⊥) → (t .class ≡ 8 → ⊥) → (n : ℕ) → PastSpaces s (t .next) n → (r : Parsed) → Names (withEntry (held p) (leafOf (t .class))) n r
+        → Gives negation s at p d r
+    unfolding codeOf withFormula
+    leaf-gives asked no-not no-paren n past r y =
+        let class = leaf-class asked no-not no-paren in
+        record {
+          forward = omega (arith, next .forward (omega arith), past .forward, y .next-is);
+          inside = omega (arith, past .inside, y .next-is);
+          sound = y .sound;
+          read = λ f z x u. let w = leaf-is f z (single (rest s at) f z x) in (ap (rest s) (y .next-is) ∙ past .same ∙ w .1, subst (λ (m : Named). Holds m r) (sym (w .0)) (y .holds u));
+          large = λ f z x u. let w = leaf-is f z (single (rest s at) f z x) in by-rows (subst (λ (m : Named). room < length (m .table)) (sym (w .0)) (y .full u));
+        }
+      where
+        leaf-is : (f : Formula) (z : List Class) → Single (rest s at) f z → (withFormula (held p) f ≡ withEntry (held p) (leafOf (t .class))) × (rest s (t .next) ≡ z)
+        leaf-is f z (letter k e l) =
+            let w = token-is s at t next (lowercase k) _ l in
+            (ap (withFormula (held p)) e ∙ ap (withEntry (held p)) (sym (letter-leaf (t .class) k (w .0))), w .1)
+        leaf-is f z (falsum e l) =
+            let w = token-is s at t next nought _ l in
+            (ap (withFormula (held p)) e ∙ ap (withEntry (held p)) (sym (falsum-leaf (t .class) (w .0))), w .1)
+        leaf-is f z (not g m e l x) = absurd (no-not (token-is s at t next tilde _ l .0))
+        leaf-is f z (enclosed m l x) = absurd (no-paren (token-is s at t next opening _ l .0))
+
+    -- `~` and an operand.
+    module _ (asked : Asks negation s at p d) (i : t .class ≡ 7) where
+      record Negated (f : Formula) (z : List Class) : Type 0 where
+        operand : Formula
+        is : f ≡ connected Implies operand Formula.falsum
+        stands : Stands negation (rest s (t .next)) operand z
+
+      negated : (f : Formula) (z : List Class) → Stands negation (rest s at) f z → Negated f z
+      unfolding codeOf
+      negated f z x = go (single (rest s at) f z x)
+        where
+          go : Single (rest s at) f z → Negated f z
+          go (letter k e l) = absurd (omega (arith, token-is s at t next (lowercase k) _ l .0))
+          go (falsum e l) = absurd (omega (arith, token-is s at t next nought _ l .0))
+          go (not g m e l y) = record { operand = g; is = e; stands = rw (token-is s at t next tilde _ l .1) y }
+          go (enclosed m l y) = absurd (omega (arith, token-is s at t next opening _ l .0))
+
+      pub asks-not : d + 1 ≤ mostNames → Asks negation s (t .next) p (d + 1)
+      asks-not few =
+          let x = negated (asked .formula) (asked .behind) (asked .stands) in
+          record {
+            formula = x .operand;
+            behind = asked .behind;
+            stands = x .stands;
+            inside = next .inside;
+            sound = asked .sound;
+            ordered = asked .ordered;
+            once = asked .once;
+            near = few;
+          }
+
+      pub deep-not : d ≡ mostNames → (r : Parsed) → Ends p (t .next) r → Gives negation s at p d r
+      deep-not full r e = ended-deep negation (t .next) r p e (next .forward (omega arith)) (next .inside) (asked .sound) (λ f z x.
+          let w = negated f z x in
+          omega (arith, ap height (w .is), taller Implies (w .operand) Formula.falsum .0))
+
+      pub not-gives : (q r : Parsed) → Gives negation s (t .next) p (d + 1) q → Makes withNegation q r → Gives negation s at p d r
+      not-gives q r y m = record {
+        forward = omega (arith, next .forward (omega arith), y .forward, made-next _ q r m);
+        inside = omega (arith, y .inside, made-next _ q r m);
+        sound = made-sound _ q r (y .sound) m;
+        read = λ f z x u.
+            let w = negated f z x in
+            let had = made-fit _ q r m u in
+            let v = y .read (w .operand) z (w .stands) had in
+            (ap (rest s) (made-next _ q r m) ∙ v .0, subst (λ (g : Formula). Holds (withFormula (held p) g) r) (sym (w .is)) (named (w .operand) (v .1) had .holds u));
+        large = λ f z x u. let w = negated f z x in subst (Exceeds (held p) d) (sym (w .is)) (exceeds (w .operand) z (w .stands) u (q .fits) refl);
+      }
+        where
+          named : (g : Formula) → Holds (withFormula (held p) g) q → q .fits ≡ true → Names (withFormula (held p) (connected Implies g Formula.falsum)) (q .next) r
+          named g x had = unfold withFormula withNegation connected in rw (x .table, x .root) at (m .named had)
+
+          exceeds : (g : Formula) (z : List Class) → Stands negation (rest s (t .next)) g z → r .fits ≡ false → (b : Bool) → q .fits ≡ b → Exceeds (held p) d (connected Implies g Formula.falsum)
+          exceeds g z x u true had = by-rows (named g (y .read g z x had .1) had .full u)
+          exceeds g z x u false had =
+              left-exceeds (connected Implies) (withCompound Implies) (connected-joins Implies) (held p) (asked .ordered) (asked .once) d g Formula.falsum (d + 1) (omega arith) (y .large g z x had)
+
+    -- A formula in parentheses.
+    module _ (i : t .class ≡ 8) where
+      inner : (f : Formula) (z : List Class) → Stands negation (rest s at) f z → Stands equivalence (rest s (t .next)) f (closing ∷ z)
+      unfolding codeOf
+      inner f z x = go (single (rest s at) f z x)
+        where
+          go : Single (rest s at) f z → Stands equivalence (rest s (t .next)) f (closing ∷ z)
+          go (letter k e l) = absurd (omega (arith, token-is s at t next (lowercase k) _ l .0))
+          go (falsum e l) = absurd (omega (arith, token-is s at t next nought _ l .0))
+          go (not g m e l y) = absurd (omega (arith, token-is s at t next tilde _ l .0))
+          go (enclosed m l y) = rw (token-is s at t next opening _ l .1) y
+
+      pub asks-inner : Asks negation s at p d → Asks equivalence s (t .next) p d
+      asks-inner asked = record {
+        formula = asked .formula;
+        behind = closing ∷ asked .behind;
+        stands = inner (asked .formula) (asked .behind) (asked .stands);
+        inside = next .inside;
+        sound = asked .sound;
+        ordered = asked .ordered;
+        once = asked .once;
+        near = asked .near;
+      }
+
+      pub inner-gives : (q : Parsed) → Gives equivalence s (t .next) p d q → (c : Token) → NextToken s (q .next) c → (n : ℕ) → PastSpaces s (c .next) n
+          → Gives negation s at p d (record { fits = q .fits; next = n; root = q .root; parts = q .parts })
+      inner-gives q y c close n past = record {
+        forward = omega (arith, next .forward (omega arith), y .forward, close .onward, past .forward);
+        inside = past .inside;
+        sound = y .sound;
+        read = λ f z x u.
+            let v = y .read f (closing ∷ z) (inner f z x) u in
+            (past .same ∙ token-is s (q .next) c close closing z (v .0) .1, record { table = v .1 .table; root = v .1 .root });
+        large = λ f z x u. y .large f (closing ∷ z) (inner f z x) u;
+      }

@@ -4,7 +4,8 @@ use mathlib.Core.Logic.{_↔_}
 use mathlib.Core.Path.{_≡_, refl, sym, _∙_, ap, subst}
 use Prim.Native.Nat.{ℕ, _≤_}
 use native.Mathlib.Omega.{arith}
-use Rattle.syntax.specs.Grammar.{Tree, Reads}
+use Rattle.ipl.specs.Formula as ipl
+use Rattle.syntax.specs.Grammar.{Reads}
 use Rattle.syntax.specs.Nodes.{Named, nodes}
 use Rattle.syntax.specs.Refusal.{TooLarge, Longest, Line, by-length, by-depth, by-grammar, by-size, Refused, line-1, line-2, line-3, line-4, Accepted}
 use Rattle.syntax.specs.Parts.{held}
@@ -20,15 +21,15 @@ module _ (s : List ℕ) where
   longest-same : (j k : ℕ) → Longest s j → Longest s k → j ≡ k
   longest-same j k a b = omega (arith, b .last j (a .within) (a .begins), a .last k (b .within) (b .begins))
 
-  too-large : (t u : Tree) → Reads s t → Reads s u → TooLarge t → TooLarge u
+  too-large : (t u : ipl.Formula) → Reads s t → Reads s u → TooLarge t → TooLarge u
   too-large t u r q h = subst TooLarge (unique s t u r q) h
 
   -- An accepted text meets no line.
-  no-line : {n : ℕ} (t : Tree) → Accepted s t → Line s n → ⊥
+  no-line : {n : ℕ} (t : ipl.Formula) → Accepted s t → Line s n → ⊥
   no-line t a (by-length h) = a .length-right h
   no-line t a (by-depth h) = a .depth-right h
   no-line t a (by-grammar h) = h (t, a .reads)
-  no-line t a (by-size {t = u} r h) = a .size-right (too-large u t r (a .reads) h)
+  no-line t a (by-size {f = u} r h) = a .size-right (too-large u t r (a .reads) h)
 
   -- A refused text meets the line of its number, and none before it.
   pub only-then : {n place : ℕ} → Refused s n place → Line s n
@@ -49,10 +50,10 @@ module _ (s : List ℕ) where
   none-before (line-3 l d g p) (by-length x) = absurd (l x)
   none-before (line-3 l d g p) (by-depth x) = absurd (d x)
   none-before (line-3 l d g p) (by-grammar x) = omega arith
-  none-before (line-3 l d g p) (by-size {t} r x) = omega arith
+  none-before (line-3 l d g p) (by-size r x) = omega arith
   none-before (line-4 l d r h) (by-length x) = absurd (l x)
   none-before (line-4 l d r h) (by-depth x) = absurd (d x)
-  none-before (line-4 {t} l d r h) (by-grammar x) = absurd (x (t, r))
+  none-before (line-4 {f} l d r h) (by-grammar x) = absurd (x (f, r))
   none-before (line-4 l d r h) (by-size q x) = omega arith
 
   place-same : {n j k : ℕ} → Refused s n j → Refused s n k → j ≡ k
@@ -72,10 +73,10 @@ module _ (s : List ℕ) where
           let z : Refused s m j = subst (λ (i : ℕ). Refused s i j) q x in
           let w = place-same z y in
           rw (q, w)
-  outcomes (Refusal n j) p (Formula i) p′ (a, e) b = absurd (no-line (b .tree) (b .accepted) (only-then a))
-  outcomes (Formula i) p (Refusal n j) p′ a (b, e) = absurd (no-line (a .tree) (a .accepted) (only-then b))
+  outcomes (Refusal n j) p (Formula i) p′ (a, e) b = absurd (no-line (b .formula) (b .accepted) (only-then a))
+  outcomes (Formula i) p (Refusal n j) p′ a (b, e) = absurd (no-line (a .formula) (a .accepted) (only-then b))
   outcomes (Formula i) p (Formula j) p′ a b =
-      let e : nodes (a .tree) ≡ nodes (b .tree) = ap nodes (unique s (a .tree) (b .tree) (a .accepted .reads) (b .accepted .reads)) in
+      let e : nodes (a .formula) ≡ nodes (b .formula) = ap nodes (unique s (a .formula) (b .formula) (a .accepted .reads) (b .accepted .reads)) in
       (ap Formula (a .root-is ∙ ap (λ (n : Named). n .root) e ∙ sym (b .root-is)), a .table-is ∙ ap (λ (n : Named). n .table) e ∙ sym (b .table-is))
 
   -- The contract leaves one answer: outcome, and rows held.
@@ -85,7 +86,7 @@ module _ (s : List ℕ) where
   -- "Each number comes when its line holds and no earlier one does, and only then."
   first-line : (o : Outcome) (p : Parts) → AnswersWith s o p → (n : ℕ) → Line s n → ((m : ℕ) → Line s m → n ≤ m) → (place : ℕ) × (o ≡ Refusal n place)
   first-line (Refusal m k) p (a, e) n l f = let q : m ≡ n = omega (arith, none-before a l, f m (only-then a)) in (k, rw q)
-  first-line (Formula i) p a n l f = absurd (no-line (a .tree) (a .accepted) l)
+  first-line (Formula i) p a n l f = absurd (no-line (a .formula) (a .accepted) l)
 
   refusal-line : (o : Outcome) (p : Parts) → AnswersWith s o p → (n place : ℕ) → o ≡ Refusal n place → Line s n × ((m : ℕ) → Line s m → n ≤ m)
   refusal-line o p a n place e = let x = subst (λ (q : Outcome). AnswersWith s q p) e a in (only-then (x .0), λ m l. none-before (x .0) l)
@@ -101,14 +102,14 @@ module _ (s : List ℕ) where
       go (line-3 l d g p) = p
 
   -- The reader accepts exactly the formulas within its limits, and gives their reading.
-  accepts : (o : Outcome) (p : Parts) → AnswersWith s o p → (t : Tree) → Accepted s t → (o ≡ Formula (nodes t .root)) × (held p ≡ nodes t .table)
+  accepts : (o : Outcome) (p : Parts) → AnswersWith s o p → (t : ipl.Formula) → Accepted s t → (o ≡ Formula (nodes t .root)) × (held p ≡ nodes t .table)
   accepts (Refusal n k) p (a, e) t x = absurd (no-line t x (only-then a))
   accepts (Formula i) p a t x =
-      let e : nodes (a .tree) ≡ nodes t = ap nodes (unique s (a .tree) t (a .accepted .reads) (x .reads)) in
+      let e : nodes (a .formula) ≡ nodes t = ap nodes (unique s (a .formula) t (a .accepted .reads) (x .reads)) in
       (ap Formula (a .root-is ∙ ap (λ (n : Named). n .root) e), a .table-is ∙ ap (λ (n : Named). n .table) e)
 
-  pub accepted-read : (r : Reading) → Answers s r → (t : Tree) → Accepted s t → (r .outcome ≡ Formula (nodes t .root)) × (held (r .parts) ≡ nodes t .table)
+  pub accepted-read : (r : Reading) → Answers s r → (t : ipl.Formula) → Accepted s t → (r .outcome ≡ Formula (nodes t .root)) × (held (r .parts) ≡ nodes t .table)
   accepted-read r a t x = accepts (r .outcome) (r .parts) a t x
 
-  pub read-accepted : (r : Reading) → Answers s r → (i : ℕ) → r .outcome ≡ Formula i → (t : Tree) × Accepted s t
-  read-accepted r a i e = let x = subst (λ (q : Outcome). AnswersWith s q (r .parts)) e a in (x .tree, x .accepted)
+  pub read-accepted : (r : Reading) → Answers s r → (i : ℕ) → r .outcome ≡ Formula i → (t : ipl.Formula) × Accepted s t
+  read-accepted r a i e = let x = subst (λ (q : Outcome). AnswersWith s q (r .parts)) e a in (x .formula, x .accepted)

@@ -2,7 +2,7 @@
 use mathlib.Core.List.{List}
 use mathlib.Core.Path.{_≡_}
 use Prim.Native.Nat.{ℕ}
-use Rattle.syntax.specs.Grammar.{Tree}
+use Rattle.ipl.specs.Formula as ipl
 use Rattle.syntax.specs.Nodes.{nodes}
 use Rattle.syntax.specs.Refusal.{Refused, Accepted}
 use Rattle.syntax.specs.Parts.{held, Sound, Empty}
@@ -11,13 +11,13 @@ use Rattle.syntax.specs.declared.Outcome.{Outcome}
 use Rattle.syntax.specs.declared.Outcome.the-variants.{Refusal, Formula}
 use Rattle.syntax.specs.declared.Reading.{Reading}
 
--- The text reads as a tree within the limits; the table is sound and that tree's, and the index that of the whole.
+-- The text reads as a formula within the limits; the table is sound and that formula's, and the index that of the whole.
 pub record Read (s : List ℕ) (root : ℕ) (p : Parts) : Type 0 where
-  pub tree : Tree
-  pub accepted : Accepted s tree
+  pub formula : ipl.Formula
+  pub accepted : Accepted s formula
   pub sound : Sound p
-  pub table-is : held p ≡ nodes tree .table
-  pub root-is : root ≡ nodes tree .root
+  pub table-is : held p ≡ nodes formula .table
+  pub root-is : root ≡ nodes formula .root
 
 abbrev pub AnswersWith : List ℕ → Outcome → Parts → Type 0
 AnswersWith s (Refusal number place) p = Refused s number place × Empty p

@@ -18,7 +18,7 @@ codeOf opening = 8
 codeOf nought = 9
 codeOf (lowercase l) = 10 + l
 
--- The class that a number of the code is for, and how many there are: ten, and the letters.
+-- The class that a number of the code is for.
 abbrev pub decode : ℕ → Class
 decode n =
     cond (eqb n 0) foreign
@@ -31,9 +31,6 @@ decode n =
     (cond (eqb n 7) tilde
     (cond (eqb n 8) opening
     (cond (eqb n 9) nought (lowercase (n - 10)))))))))))
-
-abbrev pub classCount : ℕ
-classCount = 36
 
 -- It stands between two operands.
 unfoldable pub joins : Class → Bool

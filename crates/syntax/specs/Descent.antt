@@ -1,16 +1,17 @@
 -- What the functions of the descent ask and give. A position stands for the tokens from it on.
-use mathlib.Core.Bool.{Bool, true, cond}
+use mathlib.Core.Bool.{true, false, cond}
 use mathlib.Core.List.{List, [], _∷_, _++_}
 use mathlib.Core.Path.{_≡_}
-use Prim.Native.Nat.{ℕ, _-_, _≤_, _<_}
+use Prim.Native.Nat.{ℕ, suc, max, _+_, _-_, _≤_, _<_}
 use lib.Dec.{eqb}
 use lib.ListN.{length, getD, drop}
-use Rattle.syntax.specs.Class.{Class, ampersand, bar, greater, equals, tokens, after}
+use Rattle.syntax.specs.Class.{Class, ampersand, bar, greater, equals, tokens}
 use Rattle.syntax.specs.Code.{codeOf}
-use Rattle.syntax.specs.Grammar.{Tree, Level, negation, conjunction, disjunction, implication, equivalence, Parses}
-use Rattle.syntax.specs.Nodes.{Entry, letter, falsum, withTree}
-use Rattle.syntax.specs.Scan.{move, wanted, ends}
-use Rattle.syntax.specs.Parts.{held, Sound, Holds}
+use Rattle.ipl.specs.Formula.{Formula}
+use Rattle.syntax.specs.Grammar.{Level, negation, conjunction, disjunction, implication, equivalence, Parses}
+use Rattle.syntax.specs.Nodes.{Entry, letter, falsum, withFormula, WellOrdered, Once}
+use Rattle.syntax.specs.Refusal.{mostNames}
+use Rattle.syntax.specs.Parts.{held, room, Sound, Holds}
 use Rattle.syntax.specs.declared.Parts.{Parts}
 use Rattle.syntax.specs.declared.bytes.Token.{Token}
 use Rattle.syntax.specs.declared.table.Parsed.{Parsed}
@@ -42,25 +43,9 @@ pub record PastSpaces (s : List ℕ) (at r : ℕ) : Type 0 where
 pub record NextToken (s : List ℕ) (at : ℕ) (t : Token) : Type 0 where
   pub class-is : t .class ≡ headCode (rest s at)
   pub left : rest s (t .next) ≡ tail (rest s at)
+  pub onward : at ≤ t .next
   pub forward : 0 < t .class → at < t .next
   pub inside : t .next ≤ length s
-
--- An operand is wanted at a position, and the text fits from there to its end.
-pub record Wanted (s : List ℕ) (at : ℕ) : Type 0 where
-  pub equated : Bool
-  pub outer : List Bool
-  pub fits : ends (after move (wanted equated outer) (rest s at)) ≡ true
-  pub inside : at ≤ length s
-
--- An operand of the level was read, and the table p has its parts.
-pub record Operand (k : Level) (s : List ℕ) (at : ℕ) (p : Parts) (r : Parsed) : Type 0 where
-  pub text : List Class
-  pub tree : Tree
-  pub parsed : Parses k text tree
-  pub split : rest s at ≡ text ++ rest s (r .next)
-  pub forward : at < r .next
-  pub inside : r .next ≤ length s
-  pub holds : Holds (withTree (held p) tree) r
 
 abbrev pub NotNext : Class → List Class → Type 0
 NotNext c l = headCode l ≡ codeOf c → ⊥
@@ -73,10 +58,47 @@ Stops disjunction l = NotNext ampersand l × NotNext bar l
 Stops implication l = NotNext ampersand l × NotNext bar l × NotNext greater l
 Stops equivalence l = NotNext ampersand l × NotNext bar l × NotNext greater l × NotNext equals l
 
-pub record Asks (s : List ℕ) (at : ℕ) (p : Parts) : Type 0 where
-  pub wanted : Wanted s at
-  pub sound : Sound p
+-- The tokens begin with an operand of the level, up to where no operator continues it.
+pub record Stands (k : Level) (l : List Class) (f : Formula) (behind : List Class) : Type 0 where
+  pub text : List Class
+  pub parsed : Parses k text f
+  pub split : l ≡ text ++ behind
+  pub stops : Stops k behind
 
-pub record Gives (k : Level) (s : List ℕ) (at : ℕ) (p : Parts) (r : Parsed) : Type 0 where
-  pub operand : Operand k s at p r
-  pub stops : Stops k (rest s (r .next))
+-- How many connectives of a formula stand within one another.
+unfoldable pub height : Formula → ℕ
+height (Formula.letter l) = 0
+height Formula.falsum = 0
+height (Formula.and p q) = suc (max (height p) (height q))
+height (Formula.or p q) = suc (max (height p) (height q))
+height (Formula.implies p q) = suc (max (height p) (height q))
+
+-- A table has no room for the parts of a formula that stands within `depth` connectives; or too many stand within one another.
+pub data Exceeds (T : List Entry) (depth : ℕ) (f : Formula) : Type 0 where
+  by-rows : room < length (withFormula T f .table) → Exceeds T depth f
+  by-height : mostNames < depth + height f → Exceeds T depth f
+
+-- An operand stands at the position, within so many connectives, and the table has each part once.
+pub record Asks (k : Level) (s : List ℕ) (at : ℕ) (p : Parts) (depth : ℕ) : Type 0 where
+  pub formula : Formula
+  pub behind : List Class
+  pub stands : Stands k (rest s at) formula behind
+  pub inside : at ≤ length s
+  pub sound : Sound p
+  pub ordered : WellOrdered (held p)
+  pub once : Once (held p)
+  pub near : depth ≤ mostNames
+
+-- The operand was read to its end, and the table has its parts; or they are too many.
+pub record Gives (k : Level) (s : List ℕ) (at : ℕ) (p : Parts) (depth : ℕ) (r : Parsed) : Type 0 where
+  pub forward : at < r .next
+  pub inside : r .next ≤ length s
+  pub sound : Sound (r .parts)
+  pub read : (f : Formula) (behind : List Class) → Stands k (rest s at) f behind → r .fits ≡ true → (rest s (r .next) ≡ behind) × Holds (withFormula (held p) f) r
+  pub large : (f : Formula) (behind : List Class) → Stands k (rest s at) f behind → r .fits ≡ false → Exceeds (held p) depth f
+
+-- The reading ends.
+pub record Ends (p : Parts) (next : ℕ) (r : Parsed) : Type 0 where
+  pub large : r .fits ≡ false
+  pub next-is : r .next ≡ next
+  pub parts-are : r .parts ≡ p

@@ -7,7 +7,7 @@ use Prim.Native.Nat.{ℕ, _+_}
 use lib.Dec.{eqb, ltb}
 use lib.ListN.{length}
 use Rattle.syntax.specs.Class.{classOf}
-use Rattle.syntax.specs.Grammar.{Tree}
+use Rattle.ipl.specs.Formula.{Formula}
 use Rattle.syntax.specs.Reading.{reading}
 use Rattle.syntax.specs.Nodes.{nodes, named}
 use Rattle.syntax.specs.Refusal.{mostBytes, mostOpen, mostNames, Refused, Accepted}
@@ -15,7 +15,7 @@ use Rattle.syntax.specs.Scan.{start, fitting}
 
 pub data Judgement : Type 0 where
   refused : ℕ → ℕ → Judgement
-  accepted : Tree → Judgement
+  accepted : Formula → Judgement
 
 abbrev pub isByte : ℕ → ℕ → ℕ
 isByte x b = cond (eqb b x) 1 0
@@ -26,15 +26,15 @@ deepAfter opened closed [] = false
 deepAfter opened closed (b ∷ s) =
     ltb (mostOpen + (closed + isByte 41 b)) (opened + isByte 40 b) || deepAfter (opened + isByte 40 b) (closed + isByte 41 b) s
 
-abbrev pub judgeTree : ℕ → Option Tree → Judgement
-judgeTree place none = refused 3 place
-judgeTree place (some t) = cond (ltb mostNames (named (nodes t .table))) (refused 4 0) (accepted t)
+abbrev pub judgeReading : ℕ → Option Formula → Judgement
+judgeReading place none = refused 3 place
+judgeReading place (some f) = cond (ltb mostNames (named (nodes f .table))) (refused 4 0) (accepted f)
 
 unfoldable pub judge : List ℕ → Judgement
 judge s =
     cond (eqb (length s) 0 || ltb mostBytes (length s)) (refused 1 0)
-    (cond (deepAfter 0 0 s) (refused 2 0) (judgeTree (fitting start (map classOf s)) (reading s)))
+    (cond (deepAfter 0 0 s) (refused 2 0) (judgeReading (fitting start (map classOf s)) (reading s)))
 
 abbrev pub Right : List ℕ → Judgement → Type 0
 Right s (refused number place) = Refused s number place
-Right s (accepted t) = Accepted s t
+Right s (accepted f) = Accepted s f

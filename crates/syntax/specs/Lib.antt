@@ -1,14 +1,14 @@
 -- Definitions of the reader of formula text, in the order in which they build on each other. Class, Grammar, Nodes, Refusal, Parts and
 -- Answer are what a reader must believe; Reading and Judge are proved to agree with them, and Sentences has what they say of given texts;
--- in Code, Scan, Size and Descent the code's parts speak to each other.
+-- in Code, Scan and Descent the code's parts speak to each other.
 pub mod Class
 pub mod Grammar
 pub mod Reading
 pub mod Nodes
+pub mod Sharing
 pub mod Refusal
 pub mod Code
 pub mod Scan
-pub mod Size
 pub mod Parts
 pub mod Descent
 pub mod Judge

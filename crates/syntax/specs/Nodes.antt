@@ -1,12 +1,11 @@
 -- The parts of a formula as a table (document 01: "Each part of a formula is a letter, ⊥ or a connective with its two parts").
-use mathlib.Core.Bool.{Bool, true, false, cond}
+use mathlib.Core.Bool.{Bool, true, false, cond, _&&_}
 use mathlib.Core.List.{List, [], _∷_, _++_}
+use mathlib.Core.Path.{_≡_}
 use Prim.Native.Nat.{ℕ, suc, _<_}
 use lib.Dec.{eqb, ltb}
 use lib.ListN.{length, getD}
 use Rattle.ipl.specs.Formula.{Formula}
-use Rattle.syntax.specs.Grammar as grammar
-use Rattle.syntax.specs.Grammar.{Tree}
 
 pub data Connective : Type 0 where
   And Or Implies : Connective
@@ -22,57 +21,54 @@ pub record Named : Type 0 where
   pub table : List Entry
   pub root : ℕ
 
--- Letters and ⊥ are found again; compounds are not.
-unfoldable pub sameLeaf : Entry → Entry → Bool
-sameLeaf (letter k) (letter l) = eqb k l
-sameLeaf (letter k) falsum = false
-sameLeaf (letter k) (compound c a b) = false
-sameLeaf falsum (letter l) = false
-sameLeaf falsum falsum = true
-sameLeaf falsum (compound c a b) = false
-sameLeaf (compound c a b) e = false
+-- A number for each connective, to tell them apart.
+abbrev pub numberOf : Connective → ℕ
+numberOf And = 0
+numberOf Or = 1
+numberOf Implies = 2
 
--- The index of the first entry that is this leaf; the table's length where there is none.
-unfoldable pub leafAt : Entry → List Entry → ℕ
-leafAt e [] = 0
-leafAt e (x ∷ T) = cond (sameLeaf x e) 0 (suc (leafAt e T))
+-- Two entries are the same: the letter, ⊥, or the connective and both indices. By a law (specs/Sharing.antt) these are the parts that
+-- "are the same formula, sign for sign after the abbreviations are opened".
+unfoldable pub same : Entry → Entry → Bool
+same (letter k) (letter l) = eqb k l
+same (letter k) falsum = false
+same (letter k) (compound c a b) = false
+same falsum (letter l) = false
+same falsum falsum = true
+same falsum (compound c a b) = false
+same (compound c a b) (letter l) = false
+same (compound c a b) falsum = false
+same (compound c a b) (compound d i j) = eqb a i && eqb b j && eqb (numberOf c) (numberOf d)
 
-unfoldable pub withLeaf : List Entry → Entry → Named
-withLeaf T e = record { table = cond (ltb (leafAt e T) (length T)) T (T ++ (e ∷ [])); root = leafAt e T }
+-- The index of the first entry that is the same; the table's length where there is none.
+unfoldable pub indexOf : Entry → List Entry → ℕ
+indexOf e [] = 0
+indexOf e (x ∷ T) = cond (same x e) 0 (suc (indexOf e T))
 
-unfoldable pub withCompound : List Entry → Connective → ℕ → ℕ → Named
-withCompound T c a b = record { table = T ++ (compound c a b ∷ []); root = length T }
+-- "One name, made where the first of them is complete": an entry is found again, or comes last.
+unfoldable pub withEntry : List Entry → Entry → Named
+withEntry T e = record { table = cond (ltb (indexOf e T) (length T)) T (T ++ (e ∷ [])); root = indexOf e T }
 
-unfoldable pub withEquivalence : List Entry → ℕ → ℕ → Named
-withEquivalence T a b =
-    let x = withCompound T Implies a b in
-    let y = withCompound (x .table) Implies b a in
-    withCompound (y .table) And (x .root) (y .root)
-
--- The table with a tree's parts: "inner before outer, left before right"; of p = q those of p and q, p > q, q > p, and the `&`.
-unfoldable pub withTree : List Entry → Tree → Named
-withTree T (grammar.letter l) = withLeaf T (letter l)
-withTree T grammar.falsum = withLeaf T falsum
-withTree T (grammar.and p q) =
-    let a = withTree T p in
-    let b = withTree (a .table) q in
-    withCompound (b .table) And (a .root) (b .root)
-withTree T (grammar.or p q) =
-    let a = withTree T p in
-    let b = withTree (a .table) q in
-    withCompound (b .table) Or (a .root) (b .root)
-withTree T (grammar.implies p q) =
-    let a = withTree T p in
-    let b = withTree (a .table) q in
-    withCompound (b .table) Implies (a .root) (b .root)
-withTree T (grammar.equal p q) =
-    let a = withTree T p in
-    let b = withTree (a .table) q in
-    withEquivalence (b .table) (a .root) (b .root)
+-- The table with a formula's parts: "inner before outer, left before right". Abbreviations are opened in a formula.
+unfoldable pub withFormula : List Entry → Formula → Named
+withFormula T (Formula.letter l) = withEntry T (letter l)
+withFormula T Formula.falsum = withEntry T falsum
+withFormula T (Formula.and p q) =
+    let a = withFormula T p in
+    let b = withFormula (a .table) q in
+    withEntry (b .table) (compound And (a .root) (b .root))
+withFormula T (Formula.or p q) =
+    let a = withFormula T p in
+    let b = withFormula (a .table) q in
+    withEntry (b .table) (compound Or (a .root) (b .root))
+withFormula T (Formula.implies p q) =
+    let a = withFormula T p in
+    let b = withFormula (a .table) q in
+    withEntry (b .table) (compound Implies (a .root) (b .root))
 
 -- The parts of a formula.
-unfoldable pub nodes : Tree → Named
-nodes t = withTree [] t
+unfoldable pub nodes : Formula → Named
+nodes f = withFormula [] f
 
 -- "Letters and names together": every part but ⊥.
 unfoldable pub named : List Entry → ℕ
@@ -107,3 +103,7 @@ Earlier i (compound c a b) = (a < i) × (b < i)
 
 abbrev pub WellOrdered : List Entry → Type 0
 WellOrdered T = (i : ℕ) → i < length T → Earlier i (getD T i falsum)
+
+-- Each entry stands once: it is found at its own index.
+abbrev pub Once : List Entry → Type 0
+Once T = (i : ℕ) → i < length T → indexOf (getD T i falsum) T ≡ i

@@ -1,11 +1,10 @@
 -- What a table of the code holds.
-use mathlib.Core.Bool.{cond}
+use mathlib.Core.Bool.{true, false}
 use mathlib.Core.List.{List, [], map}
 use mathlib.Core.Path.{_≡_}
-use Prim.Native.Nat.{ℕ, _+_, _≤_}
-use lib.Dec.{ltb}
-use lib.ListN.{length, take, set}
-use Rattle.syntax.specs.Nodes.{Connective, And, Or, Implies, Entry, letter, falsum, compound, Named, withLeaf, withCompound}
+use Prim.Native.Nat.{ℕ, _+_, _≤_, _<_}
+use lib.ListN.{length, take}
+use Rattle.syntax.specs.Nodes.{Connective, And, Or, Implies, Entry, letter, falsum, compound, Named, withEntry}
 use Rattle.syntax.specs.Refusal.{mostNames}
 use Rattle.syntax.specs.declared.Connective as declared
 use Rattle.syntax.specs.declared.Part.{Part}
@@ -36,23 +35,40 @@ pub record Sound (p : Parts) : Type 0 where
   pub sized : length (p .nodes) ≡ room
   pub bounded : p .count ≤ room
 
--- The table with one row more; a full one stays.
-abbrev pub pushed : Parts → Part → Parts
-pushed p e = cond (ltb (p .count) room) (record { nodes = set (p .nodes) (p .count) (record { part = e }); count = p .count + 1 }) p
-
--- r holds the table and the index, where they have room.
-pub record Holds (n : Named) (r : Parsed) : Type 0 where
-  pub sound : Sound (r .parts)
-  pub table : length (n .table) ≤ room → held (r .parts) ≡ n .table
-  pub root : length (n .table) ≤ room → r .root ≡ n .root
-
 -- The table without rows.
 pub record Empty (p : Parts) : Type 0 where
   pub sound : Sound p
   pub none : held p ≡ []
 
+-- r holds the table and the index.
+pub record Holds (n : Named) (r : Parsed) : Type 0 where
+  pub table : held (r .parts) ≡ n .table
+  pub root : r .root ≡ n .root
+
+-- A part was named; or the table has no room for it.
+pub record Names (n : Named) (next : ℕ) (r : Parsed) : Type 0 where
+  pub sound : Sound (r .parts)
+  pub next-is : r .next ≡ next
+  pub holds : r .fits ≡ true → Holds n r
+  pub full : r .fits ≡ false → room < length (n .table)
+
+-- A part was named over an operand; or there was no room for that one.
+pub record Makes (W : List Entry → ℕ → Named) (o r : Parsed) : Type 0 where
+  pub named : o .fits ≡ true → Names (W (held (o .parts)) (o .root)) (o .next) r
+  pub stays : o .fits ≡ false → r ≡ o
+
+abbrev pub withCompound : Connective → ℕ → List Entry → ℕ → Named
+withCompound c a T b = withEntry T (compound c a b)
+
 -- `~p` as p > 0.
 unfoldable pub withNegation : List Entry → ℕ → Named
 withNegation T a =
-    let z = withLeaf T falsum in
-    withCompound (z .table) Implies a (z .root)
+    let z = withEntry T falsum in
+    withEntry (z .table) (compound Implies a (z .root))
+
+-- p = q as (p > q) & (q > p).
+unfoldable pub withEquivalence : ℕ → List Entry → ℕ → Named
+withEquivalence a T b =
+    let x = withEntry T (compound Implies a b) in
+    let y = withEntry (x .table) (compound Implies b a) in
+    withEntry (y .table) (compound And (x .root) (y .root))

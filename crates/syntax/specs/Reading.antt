@@ -4,50 +4,50 @@ use mathlib.Core.List.{List}
 use mathlib.Core.Option.{Option, none, some}
 use Prim.Native.Nat.{ℕ, zero, suc}
 use Rattle.syntax.specs.Class.{Class, foreign, closing, ampersand, bar, greater, equals, blank, tilde, opening, nought, lowercase, tokens, after}
-use Rattle.syntax.specs.Grammar.{Tree, letter, falsum, and, or, implies, equal}
+use Rattle.ipl.specs.Formula.{Formula, letter, falsum, and, or, implies, iff}
 
 -- What waits for an operand of `>` or `=`, or for a whole formula: nothing; a parenthesis, with the `~`, the left of `&` and the left of
 -- `|` before it; the left of `>` or `=`.
 pub data Outer : Type 0 where
   top : Outer
-  paren : ℕ → Option Tree → Option Tree → Outer → Outer
-  implied equated : Tree → Outer → Outer
+  paren : ℕ → Option Formula → Option Formula → Outer → Outer
+  implied equated : Formula → Outer → Outer
 
 -- An operand is wanted, after so many `~` and the left parts given; or one was read up to `&`.
 pub data Reader : Type 0 where
   stuck : Reader
-  want : ℕ → Option Tree → Option Tree → Outer → Reader
-  have : Tree → Option Tree → Outer → Reader
+  want : ℕ → Option Formula → Option Formula → Outer → Reader
+  have : Formula → Option Formula → Outer → Reader
 
-unfoldable pub negated : ℕ → Tree → Tree
+unfoldable pub negated : ℕ → Formula → Formula
 negated zero t = t
 negated (suc n) t = negated n (implies t falsum)
 
-abbrev pub joinLeft : (Tree → Tree → Tree) → Option Tree → Tree → Tree
+abbrev pub joinLeft : (Formula → Formula → Formula) → Option Formula → Formula → Formula
 joinLeft f none t = t
 joinLeft f (some l) t = f l t
 
-abbrev pub operand : ℕ → Option Tree → Tree → Tree
+abbrev pub operand : ℕ → Option Formula → Formula → Formula
 operand n a t = joinLeft and a (negated n t)
 
-unfoldable pub shut : Tree → Outer → Reader
+unfoldable pub shut : Formula → Outer → Reader
 shut t top = stuck
 shut t (paren n a o k) = have (operand n a t) o k
 shut t (implied l k) = shut (implies l t) k
-shut t (equated l k) = shut (equal l t) k
+shut t (equated l k) = shut (iff l t) k
 
 -- An `=`: the implications to its left are complete, and none has stood at its level.
-unfoldable pub equate : Tree → Outer → Reader
+unfoldable pub equate : Formula → Outer → Reader
 equate t top = want 0 none none (equated t top)
 equate t (paren n a o k) = want 0 none none (equated t (paren n a o k))
 equate t (implied l k) = equate (implies l t) k
 equate t (equated l k) = stuck
 
-unfoldable pub finish : Tree → Outer → Option Tree
+unfoldable pub finish : Formula → Outer → Option Formula
 finish t top = some t
 finish t (paren n a o k) = none
 finish t (implied l k) = finish (implies l t) k
-finish t (equated l k) = finish (equal l t) k
+finish t (equated l k) = finish (iff l t) k
 
 unfoldable pub readToken : Reader → Class → Reader
 readToken stuck c = stuck
@@ -74,10 +74,10 @@ readToken (have t o k) opening = stuck
 readToken (have t o k) nought = stuck
 readToken (have t o k) (lowercase l) = stuck
 
-unfoldable pub result : Reader → Option Tree
+unfoldable pub result : Reader → Option Formula
 result stuck = none
 result (want n a o k) = none
 result (have t o k) = finish (joinLeft or o t) k
 
-unfoldable pub reading : List ℕ → Option Tree
+unfoldable pub reading : List ℕ → Option Formula
 reading s = result (after readToken (want 0 none none top) (tokens s))

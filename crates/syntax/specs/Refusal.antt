@@ -6,7 +6,8 @@ use mathlib.Core.Path.{_≡_}
 use Prim.Native.Nat.{ℕ, suc, _+_, _≤_, _<_}
 use lib.Dec.{eqb}
 use lib.ListN.{length, take}
-use Rattle.syntax.specs.Grammar.{Tree, Reads, IsFormula, Begins}
+use Rattle.ipl.specs.Formula.{Formula}
+use Rattle.syntax.specs.Grammar.{Reads, IsFormula, Begins}
 use Rattle.syntax.specs.Nodes.{nodes, named}
 
 -- "1: empty, or over 4,096 bytes"
@@ -37,33 +38,33 @@ pub record Longest (s : List ℕ) (place : ℕ) : Type 0 where
   pub begins : Begins (take place s)
   pub last : (k : ℕ) → k ≤ length s → Begins (take k s) → k ≤ place
 
--- "4: letters and names together over 64"
+-- "4: letters and names together over 64". Change 4: "Refusal 4 counts names after sharing."
 abbrev pub mostNames : ℕ
 mostNames = 64
 
-abbrev pub TooLarge : Tree → Type 0
-TooLarge t = mostNames < named (nodes t .table)
+abbrev pub TooLarge : Formula → Type 0
+TooLarge f = mostNames < named (nodes f .table)
 
 -- The lines by their numbers.
 pub data Line (s : List ℕ) : ℕ → Type 0 where
   by-length : BadLength s → Line s 1
   by-depth : TooDeep s → Line s 2
   by-grammar : ¬ IsFormula s → Line s 3
-  by-size : {t : Tree} → Reads s t → TooLarge t → Line s 4
+  by-size : {f : Formula} → Reads s f → TooLarge f → Line s 4
 
 -- "Each number comes when its line holds and no earlier one does, and only then." The place is 0 where none is given.
 pub data Refused (s : List ℕ) : ℕ → ℕ → Type 0 where
   line-1 : BadLength s → Refused s 1 0
   line-2 : ¬ BadLength s → TooDeep s → Refused s 2 0
   line-3 : {place : ℕ} → ¬ BadLength s → ¬ TooDeep s → ¬ IsFormula s → Longest s place → Refused s 3 place
-  line-4 : {t : Tree} → ¬ BadLength s → ¬ TooDeep s → Reads s t → TooLarge t → Refused s 4 0
+  line-4 : {f : Formula} → ¬ BadLength s → ¬ TooDeep s → Reads s f → TooLarge f → Refused s 4 0
 
--- No line holds, and the text reads as the tree.
-pub record Accepted (s : List ℕ) (t : Tree) : Type 0 where
+-- No line holds, and the text reads as the formula.
+pub record Accepted (s : List ℕ) (f : Formula) : Type 0 where
   pub length-right : ¬ BadLength s
   pub depth-right : ¬ TooDeep s
-  pub reads : Reads s t
-  pub size-right : ¬ TooLarge t
+  pub reads : Reads s f
+  pub size-right : ¬ TooLarge f
 
 -- A test's answer to whether P holds.
 abbrev pub Decides : Bool → Type 0 → Type 0

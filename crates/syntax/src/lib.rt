@@ -3,7 +3,6 @@ ghost use Rattle.syntax.specs.Answer.{Answers, Refuses};
 
 mod bytes;
 mod classes;
-mod count;
 mod descent;
 mod parentheses;
 mod scan;
@@ -76,11 +75,14 @@ pub fn read(text: &[u8]) -> Reading
     if let scan::Scan::Fault(place) = scan::find_fault(text) {
         return refused(3, place);
     }
-    if MOST_NAMES < count::size(text) {
+    let whole = descent::equivalence(text, 0, table::empty(), 0);
+    if !whole.fits {
         return refused(4, 0);
     }
-    let whole = descent::equivalence(text, 0, table::empty());
     let parts = whole.parts;
+    if MOST_NAMES < table::names(parts) {
+        return refused(4, 0);
+    }
     Reading {
         outcome: Outcome::Formula(whole.root),
         parts,

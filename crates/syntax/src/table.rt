@@ -1,15 +1,17 @@
-// The table of parts: letters and ⊥ are found again, each compound has a row of its own.
+// The table of parts: each part has one row, made where the first like it is complete.
 use super::Connective;
 use super::Node;
 use super::PARTS;
 use super::Part;
 use super::Parts;
 ghost use mathlib.Core.Path.{_≡_};
-ghost use Rattle.syntax.specs.Nodes.{sameLeaf, leafAt, withLeaf, withCompound, withEquivalence};
-ghost use Rattle.syntax.specs.Parts.{connectiveOf, entryOf, held, Sound, Holds, pushed, Empty, withNegation};
+ghost use Rattle.syntax.specs.Nodes.{named, numberOf, same, indexOf, withEntry, Once};
+ghost use Rattle.syntax.specs.Parts.{connectiveOf, entryOf, held, Sound, Empty, Names, Makes, withCompound, withNegation, withEquivalence};
 
-// An operand that was read: the position after it, and its index in the table.
+// An operand that was read: the position after it, and its index in the table. Or it has parts for which the table has no room, and
+// the reading ends.
 pub struct Parsed {
+    pub fits: bool,
     pub next: usize,
     pub root: u8,
     pub parts: Parts,
@@ -23,21 +25,18 @@ pub fn empty() -> Parts
     Parts { nodes, count: 0 }
 }
 
-fn push(parts: Parts, part: Part) -> Parts
-    ensures { λ r. ⌜ r ≡ pushed parts part ⌝ }
+fn number_of(c: Connective) -> u8
+    ensures { λ r. ⌜ r ≡ numberOf (connectiveOf c) ⌝ }
 {
-    let count = parts.count;
-    let mut more = parts;
-    let i = count as usize;
-    if i < PARTS {
-        more.nodes[i] = Node { part };
-        more.count = count + 1;
+    match c {
+        Connective::And => 0,
+        Connective::Or => 1,
+        Connective::Implies => 2,
     }
-    more
 }
 
-fn same_leaf(a: Part, b: Part) -> bool
-    ensures { λ r. ⌜ r ≡ sameLeaf (entryOf a) (entryOf b) ⌝ }
+fn same(a: Part, b: Part) -> bool
+    ensures { λ r. ⌜ r ≡ same (entryOf a) (entryOf b) ⌝ }
 {
     match a {
         Part::Letter(k) => match b {
@@ -50,20 +49,31 @@ fn same_leaf(a: Part, b: Part) -> bool
             Part::Falsum => true,
             Part::Compound(_, _, _) => false,
         },
-        Part::Compound(_, _, _) => false,
+        Part::Compound(c, i, j) => match b {
+            Part::Letter(_) => false,
+            Part::Falsum => false,
+            Part::Compound(d, k, l) => {
+                if i == k {
+                    if j == l {
+                        return number_of(c) == number_of(d);
+                    }
+                }
+                false
+            }
+        },
     }
 }
 
-// The row of a leaf, or the number of rows. Every table of the reader is sound.
-fn leaf_at(parts: Parts, part: Part) -> u8
+// The row of a part, or the number of rows. Every table of the reader is sound.
+fn index_of(parts: Parts, part: Part) -> u8
     requires { ⌜ Sound parts ⌝ }
-    ensures { λ r. ⌜ r ≡ leafAt (entryOf part) (held parts) ⌝ }
+    ensures { λ r. ⌜ r ≡ indexOf (entryOf part) (held parts) ⌝ }
 {
     let mut i: u8 = 0;
     while i < parts.count {
         let node = parts.nodes[i as usize];
         let other = node.part;
-        if same_leaf(other, part) {
+        if same(other, part) {
             return i;
         }
         i += 1;
@@ -71,56 +81,86 @@ fn leaf_at(parts: Parts, part: Part) -> u8
     i
 }
 
-pub fn leaf(parts: Parts, part: Part, next: usize) -> Parsed
+// A part that ends before a position: found again, or in a new row.
+pub fn with_part(parts: Parts, part: Part, next: usize) -> Parsed
     requires { ⌜ Sound parts ⌝ }
-    ensures { λ r. ⌜ (r .next ≡ next) × Holds (withLeaf (held parts) (entryOf part)) r ⌝ }
+    ensures { λ r. ⌜ Names (withEntry (held parts) (entryOf part)) next r ⌝ }
 {
-    let root = leaf_at(parts, part);
+    let root = index_of(parts, part);
     if root < parts.count {
-        return Parsed { next, root, parts };
+        return Parsed {
+            fits: true,
+            next,
+            root,
+            parts,
+        };
+    }
+    let i = root as usize;
+    if i < PARTS {
+        let mut more = parts;
+        more.nodes[i] = Node { part };
+        more.count = root + 1;
+        return Parsed {
+            fits: true,
+            next,
+            root,
+            parts: more,
+        };
     }
     Parsed {
+        fits: false,
         next,
         root,
-        parts: push(parts, part),
+        parts,
     }
 }
 
 // The compound of an operand and the one read after it.
 pub fn compound(c: Connective, left: u8, right: Parsed) -> Parsed
     requires { ⌜ Sound (right .parts) ⌝ }
-    ensures { λ r. ⌜ (r .next ≡ right .next) × Holds (withCompound (held (right .parts)) (connectiveOf c) left (right .root)) r ⌝ }
+    ensures { λ r. ⌜ Makes (withCompound (connectiveOf c) left) right r ⌝ }
 {
-    let parts = right.parts;
-    let part = Part::Compound(c, left, right.root);
-    Parsed {
-        next: right.next,
-        root: parts.count,
-        parts: push(parts, part),
+    if right.fits {
+        let part = Part::Compound(c, left, right.root);
+        return with_part(right.parts, part, right.next);
     }
+    right
 }
 
 // `~p` as p > 0.
 pub fn negation(p: Parsed) -> Parsed
     requires { ⌜ Sound (p .parts) ⌝ }
-    ensures { λ r. ⌜ (r .next ≡ p .next) × Holds (withNegation (held (p .parts)) (p .root)) r ⌝ }
+    ensures { λ r. ⌜ Makes withNegation p r ⌝ }
 {
-    let falsum = leaf(p.parts, Part::Falsum, p.next);
-    compound(Connective::Implies, p.root, falsum)
+    if p.fits {
+        let falsum = with_part(p.parts, Part::Falsum, p.next);
+        return compound(Connective::Implies, p.root, falsum);
+    }
+    p
 }
 
 // p = q as (p > q) & (q > p).
 pub fn equivalence(left: u8, right: Parsed) -> Parsed
     requires { ⌜ Sound (right .parts) ⌝ }
-    ensures { λ r. ⌜ (r .next ≡ right .next) × Holds (withEquivalence (held (right .parts)) left (right .root)) r ⌝ }
+    ensures { λ r. ⌜ Makes (withEquivalence left) right r ⌝ }
 {
     let there = compound(Connective::Implies, left, right);
-    let parts = there.parts;
-    let turned = Parsed {
-        next: there.next,
-        root: left,
-        parts,
-    };
-    let back = compound(Connective::Implies, right.root, turned);
-    compound(Connective::And, there.root, back)
+    if there.fits {
+        let part = Part::Compound(Connective::Implies, right.root, left);
+        let back = with_part(there.parts, part, there.next);
+        return compound(Connective::And, there.root, back);
+    }
+    there
+}
+
+// Letters and names: every row but that of ⊥.
+pub fn names(parts: Parts) -> usize
+    requires { ⌜ Sound parts × Once (held parts) ⌝ }
+    ensures { λ r. ⌜ r ≡ named (held parts) ⌝ }
+{
+    let rows = parts.count as usize;
+    if index_of(parts, Part::Falsum) < parts.count {
+        return rows - 1;
+    }
+    rows
 }

@@ -4,8 +4,9 @@ use mathlib.Core.Bool.{true}
 use mathlib.Core.Path.{_≡_, subst}
 use Rattle.syntax.specs.Refusal.{BadLength, TooDeep, line-1}
 use Rattle.syntax.specs.Scan.{ends, Scanned, scanned}
-use Rattle.syntax.proofs.Judgement.{answer-refused, length-right, refused-deep, depth-right, refused-fault, refused-large, accepted, start-asks}
+use Rattle.syntax.proofs.Judgement.{answer-refused, length-right, refused-deep, depth-right, refused-fault, refused-large, parts-once, refused-many, accepted, start-asks}
 use borrow.Author.Needs.{needs}
+use borrow.Author.Tests.{not-true, not-false}
 use Rattle.syntax.proofs.read.Statement.{statement}
 use Rattle.syntax.proofs.read.Tie as tie
 
@@ -36,23 +37,44 @@ returns-4 c =
     let fault = refused-fault _ (length-is (d .before .before)) (depth-is d) _ _ (scan .find-fault .ensures) (c .before .before .place .given .1) in
     answer-refused _ _ _ _ fault (c .refused4 .ensures)
 
+equivalence-requires : tie.Need-equivalence-requires
+equivalence-requires c κs = start-asks _ (fits (c .before)) _ (c .empty .ensures)
+
 returns-5 : tie.Need-returns-5
 returns-5 c =
-    let e = c .before .before .before in
-    let d = e .before .before .before in
-    let large = refused-large _ (length-is (d .before .before)) (depth-is d) (fits e) _ (c .before .before .size .ensures) (c .before .if4 .taken) in
+    let read = c .before .before .before in
+    let told = read .before .before in
+    let d = told .before .before .before in
+    let large = refused-large _ (length-is (d .before .before)) (depth-is d) (fits told) _ (read .before .empty .ensures) _ (read .equivalence .ensures) (not-true _ (c .before .if4 .taken)) in
     answer-refused _ _ _ _ large (c .refused5 .ensures)
 
-equivalence-requires : tie.Need-equivalence-requires
-equivalence-requires c κs = start-asks _ (fits (c .before .before .before)) _ (c .empty .ensures)
+names-requires : tie.Need-names-requires
+names-requires c κs =
+    let read = c .before .before .before in
+    let told = read .before .before in
+    let d = told .before .before .before in
+    (read .equivalence .ensures .sound, parts-once _ (length-is (d .before .before)) (depth-is d) (fits told) _ (read .before .empty .ensures) _ (read .equivalence .ensures) (not-false _ (c .before .if4 .left)))
 
 returns-6 : tie.Need-returns-6
 returns-6 c =
-    let sized = c .before .before .before in
-    let e = sized .before .before in
-    let d = e .before .before .before in
-    accepted _ (length-is (d .before .before)) (depth-is d) (fits e) _ (sized .before .size .ensures) (sized .if4 .left)
-    _ (c .before .before .empty .ensures) _ (c .before .equivalence .ensures)
+    let named = c .before .before in
+    let test = named .before .before in
+    let read = test .before .before in
+    let told = read .before .before in
+    let d = told .before .before .before in
+    let many = refused-many _ (length-is (d .before .before)) (depth-is d) (fits told) _ (read .before .empty .ensures) _ (read .equivalence .ensures) (not-false _ (test .if4 .left))
+    _ (named .names .ensures) (c .before .if5 .taken) in
+    answer-refused _ _ _ _ many (c .refused6 .ensures)
+
+returns-7 : tie.Need-returns-7
+returns-7 c =
+    let named = c .before in
+    let test = named .before .before in
+    let read = test .before .before in
+    let told = read .before .before in
+    let d = told .before .before .before in
+    accepted _ (length-is (d .before .before)) (depth-is d) (fits told) _ (read .before .empty .ensures) _ (read .equivalence .ensures) (not-false _ (test .if4 .left))
+    _ (named .names .ensures) (c .if5 .left)
 
 pub read-spec : {M : Type 1} → statement M
 read-spec =
@@ -71,8 +93,10 @@ read-spec =
     returns-4
     (λ c. search needs)
     (λ c κs. search needs)
+    equivalence-requires
     (λ c κs. search needs)
     returns-5
+    names-requires
     (λ c κs. search needs)
-    equivalence-requires
-    returns-6)
+    returns-6
+    returns-7)

@@ -1,11 +1,11 @@
-//! Random formulas of all sizes: both implementations, the sequent prover, and forcing in the worlds shown.
+//! Random formulas of all sizes, and long ones that repeat their parts: both implementations, the sequent prover, and forcing in the worlds shown.
 
 use crate::both::{self, fail, word};
 use crate::Counts;
 use outside::certificate::write;
 use outside::forcing::{counters, names_agree};
 use outside::proved::{call, Task};
-use outside::random::{formula, Random, Style};
+use outside::random::{formula, repeating, Random, Style};
 use outside::report::Settled;
 use outside::search::Verdict;
 use outside::sequent::provable;
@@ -40,13 +40,19 @@ pub fn compare(random: &mut Random, counts: &mut Counts) {
                 bare: [0, 1, 2, 4][random.below(4)],
             };
             let size = group.least + random.below(group.most - group.least + 1);
-            let input = formula(random, &style, size);
-            if let Ok(settled) = both::settle(&input) {
-                check(&input, &settled, counts);
-            }
-            counts.formulas += 1;
+            settle(&formula(random, &style, size), counts);
         }
     }
+    for _ in 0..3_000 {
+        settle(&repeating(random), counts);
+    }
+}
+
+fn settle(input: &[u8], counts: &mut Counts) {
+    if let Ok(settled) = both::settle(input) {
+        check(input, &settled, counts);
+    }
+    counts.formulas += 1;
 }
 
 /// The verdict beside the sequent prover and the tree of the formula; the certificate must be accepted.

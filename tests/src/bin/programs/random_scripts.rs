@@ -1,7 +1,7 @@
 //! Random scripts: calls of every kind over few and over many atoms, refused ones included, and lines that are no calls.
 
 use outside::naming::{single, FALSE};
-use outside::random::{bytes_changed, formula, Random, Style};
+use outside::random::{bytes_changed, formula, repeating, Random, Style};
 use outside::script::{hexadecimal, Dialogue};
 use outside::texts::{damaged, nested};
 use std::collections::BTreeMap;
@@ -161,6 +161,7 @@ impl<'a> Author<'a> {
             2 => vec![b' '; [0, 4_096, 4_097][self.random.below(3)]],
             3..=4 => damaged(self.random),
             5 => nested(self.random),
+            6 => repeating(self.random),
             _ => {
                 let size = self.random.below(14);
                 formula(self.random, &style, size)

@@ -3,7 +3,7 @@
 use crate::{fail, printed};
 use outside::corpus::entries;
 use outside::program::{run, run_in_pieces, SETTLE};
-use outside::random::{formula, Random, Style};
+use outside::random::{formula, repeating, Random, Style};
 use outside::report::{certified, report, settle_text};
 use outside::texts::{damaged, drawn, limits, nested, BYTES};
 use std::ffi::OsString;
@@ -95,6 +95,7 @@ fn texts(random: &mut Random) -> Vec<Vec<u8>> {
     for _ in 0..100 {
         all.push(damaged(random));
         all.push(nested(random));
+        all.push(repeating(random));
         let length = random.below(60);
         all.push(drawn(random, BYTES, length));
         all.push((0..length).map(|_| random.draw() as u8).collect());
