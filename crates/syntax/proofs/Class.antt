@@ -9,7 +9,7 @@ use native.Mathlib.Omega.{arith}
 use lib.Dec.{eqb, leb, leb→le}
 use lib.ListN.{length, getD, drop, drop-of-length-le}
 use lib.Seq.{drop-cons}
-use borrow.Author.Tests.{eqb-true, eqb-false, eq-eqb, ne-eqb, le-leb, lt-leb}
+use borrow.Author.Tests.{eq-eqb, eqb-false, eqb-true, le-leb, leb-false, leb-true, lt-leb, ne-eqb}
 use Rattle.atoms.proofs.Truth.{by-cond, T-left, T-right, true-T}
 use Rattle.syntax.specs.Class.{Class, foreign, closing, ampersand, bar, greater, equals, blank, tilde, opening, nought, lowercase}
 use Rattle.syntax.specs.Class.{classOf, tokens, after}
@@ -65,6 +65,12 @@ module _ (n : ℕ) where
       (λ e. lt-leb 10 n (omega arith)) (λ e. lt-leb 10 n (omega arith)) (λ e. lt-leb 10 n (omega arith)) (λ e. lt-leb 10 n (omega arith))
       (λ e. lt-leb 10 n (omega arith)) (λ e. lt-leb 10 n (omega arith)) (λ e. lt-leb 10 n (omega arith)) (λ e. lt-leb 10 n (omega arith))
       (λ e. lt-leb 10 n (omega arith)) (λ e. lt-leb 10 n (omega arith)) (λ h. le-leb 10 n h)
+
+  pub letter-number : isLetter (decode n) ≡ true → 10 ≤ n
+  letter-number e = leb-true 10 n (letter-test ∙ e)
+
+  pub other-number : isLetter (decode n) ≡ false → n ≤ 9
+  other-number e = omega (arith, leb-false 10 n (letter-test ∙ e))
 
   pub leaf-letter : (n ≡ 9 → ⊥) → isLetter (decode n) ≡ isLeaf (decode n)
   unfolding isLetter isLeaf

@@ -17,7 +17,7 @@ use Rattle.syntax.specs.Descent.{headCode, tail, NotNext, Stops, Stands}
 pub data Single (l : List Class) (f : Formula) (behind : List Class) : Type 0 where
   letter : (k : ℕ) → f ≡ Formula.letter k → l ≡ lowercase k ∷ behind → Single l f behind
   falsum : f ≡ Formula.falsum → l ≡ nought ∷ behind → Single l f behind
-  not : (g : Formula) (m : List Class) → f ≡ connected Implies g Formula.falsum → l ≡ tilde ∷ m → Stands negation m g behind → Single l f behind
+  tilded : (g : Formula) (m : List Class) → f ≡ connected Implies g Formula.falsum → l ≡ tilde ∷ m → Stands negation m g behind → Single l f behind
   enclosed : (m : List Class) → l ≡ opening ∷ m → Stands equivalence m f (closing ∷ behind) → Single l f behind
 
 closing-stops : (b : List Class) → Stops equivalence (closing ∷ b)
@@ -31,7 +31,7 @@ single l f b x = go (x .parsed) (x .split)
     go : {u : List Class} {g : Formula} → Parses negation u g → l ≡ u ++ b → Single l g b
     go (a-letter {l = k}) e = letter k refl e
     go a-falsum e = falsum refl e
-    go (by-not {u} {p} r) e = not p (u ++ b) refl e (record { text = u; parsed = r; split = refl; stops = tt })
+    go (by-not {u} {p} r) e = tilded p (u ++ b) refl e (record { text = u; parsed = r; split = refl; stops = tt })
     go (inside {u} r) e =
         enclosed ((u ++ (closing ∷ [])) ++ b) e (record { text = u; parsed = r; split = append-assoc u (closing ∷ []) b; stops = closing-stops b })
 

@@ -11,8 +11,10 @@ use lib.Seq.{length-take-le, take-suc-set, getD-take, drop-cons}
 use borrow.Author.Tests.{lt-ltb, le-ltb}
 use Rattle.ipl.proofs.Lists.{map-snoc}
 use Rattle.syntax.specs.Nodes.{Connective, And, Implies, Entry, falsum, compound, Named, same, indexOf, withEntry, named, Once}
-use Rattle.syntax.specs.Parts.{entryOf, held, room, Sound, Names, Makes, withCompound, withNegation, withEquivalence}
+use Rattle.syntax.specs.Parts.{connectiveOf, entryOf, held, room, Sound, Names, Makes, withPart, withCompound, withNegation, withEquivalence}
+use Rattle.syntax.specs.declared.Connective as declared
 use Rattle.syntax.specs.declared.Part.{Part}
+use Rattle.syntax.specs.declared.Part.the-variants.{Falsum, Compound}
 use Rattle.syntax.specs.declared.Node.{Node}
 use Rattle.syntax.specs.declared.Parts.{Parts}
 use Rattle.syntax.specs.declared.table.Parsed.{Parsed}
@@ -79,51 +81,6 @@ module _ (p : Parts) (s : Sound p) (e : Entry) (i : ℕ) (n : NotBefore e (held 
   pub row-later : b ≡ false → NotBefore e (held p) (i + 1)
   row-later t = search-later e (held p) i n (omega (arith, held-length p s)) (entryAt d) (same-row ∙ t)
 
--- What the functions of the table hold.
-module _ (p : Parts) (s : Sound p) (next root : ℕ) where
-  pub names-found : (e : Entry) → root ≡ indexOf e (held p) → root < p .count → Names (withEntry (held p) e) next (record { fits = true; next = next; root = root; parts = p })
-  unfolding withEntry
-  names-found e k h =
-      let w : indexOf e (held p) < length (held p) = omega (arith, held-length p s) in
-      rw (lt-ltb (indexOf e (held p)) (length (held p)) w)
-      (record { sound = s; next-is = refl; holds = λ t. record { table = refl; root = k }; full = λ t. absurd (true≢false t) })
-
-  module _ (e : Part) (k : root ≡ indexOf (entryOf e) (held p)) (absent : p .count ≤ root) where
-    last : root ≡ p .count
-    last = omega (arith, held-length p s, index-end (held p) (entryOf e))
-
-    new : length (held p) ≤ indexOf (entryOf e) (held p)
-    new = omega (arith, held-length p s)
-
-    pub names-new : (h : root < room) → Names (withEntry (held p) (entryOf e)) next (record { fits = true; next = next; root = root; parts = pushed p e root })
-    unfolding withEntry
-    names-new h =
-        rw (le-ltb (indexOf (entryOf e) (held p)) (length (held p)) new) (record {
-          sound = push-sound p s e root last h;
-          next-is = refl;
-          holds = λ t. record { table = push-held p s e root last h; root = k };
-          full = λ t. absurd (true≢false t);
-        })
-
-    pub names-full : room ≤ root → Names (withEntry (held p) (entryOf e)) next (record { fits = false; next = next; root = root; parts = p })
-    unfolding withEntry
-    names-full h =
-        let long : room < length (held p ++ (entryOf e ∷ [])) = omega (arith, last, held-length p s, length-append (held p) (entryOf e ∷ [])) in
-        rw (le-ltb (indexOf (entryOf e) (held p)) (length (held p)) new) (record {
-          sound = s;
-          next-is = refl;
-          holds = λ t. absurd (false≢true t);
-          full = λ t. long;
-        })
-
--- Letters and names.
-module _ (p : Parts) (s : Sound p) (at : ℕ) (k : at ≡ indexOf falsum (held p)) where
-  pub names-but-one : Once (held p) → at < p .count → p .count - 1 ≡ named (held p)
-  names-but-one o h = let rows = held-length p s in omega (arith, names-with-falsum (held p) o (omega arith))
-
-  pub names-all : p .count ≤ at → p .count ≡ named (held p)
-  names-all h = let rows = held-length p s in omega (arith, names-without (held p) (omega arith))
-
 -- What is made of an operand.
 module _ (W : List Entry → ℕ → Named) (o : Parsed) where
   pub made : (r : Parsed) → o .fits ≡ true → Names (W (held (o .parts)) (o .root)) (o .next) r → Makes W o r
@@ -131,6 +88,10 @@ module _ (W : List Entry → ℕ → Named) (o : Parsed) where
 
   pub not-made : o .fits ≡ false → Makes W o o
   not-made f = record { named = λ e. absurd (false≢true (sym f ∙ e)); stays = λ e. refl }
+
+  -- Nothing is made of what has no room, however it came.
+  pub unmade : (z r : Parsed) → z ≡ o → o .fits ≡ false → Makes W z r → r ≡ o
+  unmade z r e f m = m .stays (ap (λ (x : Parsed). x .fits) e ∙ f) ∙ e
 
   pub made-sound : (r : Parsed) → Sound (o .parts) → Makes W o r → Sound (r .parts)
   made-sound r s m = go (o .fits) refl
@@ -178,38 +139,90 @@ module _ (W : List Entry → ℕ → Named) (o : Parsed) where
         go true e = fitting e
         go false e = unfitting e
 
+-- A part in the place of an operand that has room.
+module _ (o : Parsed) (s : Sound (o .parts)) (t : o .fits ≡ true) (root : ℕ) (e : Part) (k : root ≡ indexOf (entryOf e) (held (o .parts))) where
+  pub part-found : root < o .parts .count → Makes (withPart e) o (record { fits = true; next = o .next; root = root; parts = o .parts })
+  unfolding withEntry
+  part-found h = made (withPart e) o _ t (
+      let w : indexOf (entryOf e) (held (o .parts)) < length (held (o .parts)) = omega (arith, held-length (o .parts) s) in
+      rw (lt-ltb (indexOf (entryOf e) (held (o .parts))) (length (held (o .parts))) w)
+      (record { sound = s; next-is = refl; holds = λ u. record { table = refl; root = k }; full = λ u. absurd (true≢false u) }))
+
+  module _ (absent : o .parts .count ≤ root) where
+    last : root ≡ o .parts .count
+    last = omega (arith, held-length (o .parts) s, index-end (held (o .parts)) (entryOf e))
+
+    new : length (held (o .parts)) ≤ indexOf (entryOf e) (held (o .parts))
+    new = omega (arith, held-length (o .parts) s)
+
+    pub part-new : (h : root < room) → Makes (withPart e) o (record { fits = true; next = o .next; root = root; parts = pushed (o .parts) e root })
+    unfolding withEntry
+    part-new h = made (withPart e) o _ t (
+        rw (le-ltb (indexOf (entryOf e) (held (o .parts))) (length (held (o .parts))) new) (record {
+          sound = push-sound (o .parts) s e root last h;
+          next-is = refl;
+          holds = λ u. record { table = push-held (o .parts) s e root last h; root = k };
+          full = λ u. absurd (true≢false u);
+        }))
+
+    pub part-full : room ≤ root → Makes (withPart e) o (record { fits = false; next = o .next; root = root; parts = o .parts })
+    unfolding withEntry
+    part-full h = made (withPart e) o _ t (
+        let long : room < length (held (o .parts) ++ (entryOf e ∷ [])) = omega (arith, last, held-length (o .parts) s, length-append (held (o .parts)) (entryOf e ∷ [])) in
+        rw (le-ltb (indexOf (entryOf e) (held (o .parts))) (length (held (o .parts))) new)
+        (record { sound = s; next-is = refl; holds = λ u. absurd (false≢true u); full = λ u. long }))
+
+-- Letters and names.
+module _ (p : Parts) (s : Sound p) (at : ℕ) (k : at ≡ indexOf falsum (held p)) where
+  pub names-but-one : Once (held p) → at < p .count → p .count - 1 ≡ named (held p)
+  names-but-one o h = let rows = held-length p s in omega (arith, names-with-falsum (held p) o (omega arith))
+
+  pub names-all : p .count ≤ at → p .count ≡ named (held p)
+  names-all h = let rows = held-length p s in omega (arith, names-without (held p) (omega arith))
+
 pub compound-grows : (c : Connective) (a : ℕ) (T : List Entry) (b : ℕ) → length T ≤ length (withCompound c a T b .table)
 compound-grows c a T b = entry-grows T (compound c a b)
 
+-- The compound of an operand and the one after it.
+pub compound-made : (c : declared.Connective) (left : ℕ) (o r : Parsed) → Makes (withPart (Compound c left (o .root))) o r → Makes (withCompound (connectiveOf c) left) o r
+compound-made c left o r m = record { named = m .named; stays = m .stays }
+
 -- `~p` as p > 0.
-pub negation-made : (o z r : Parsed) → o .fits ≡ true → Names (withEntry (held (o .parts)) falsum) (o .next) z → Makes (withCompound Implies (o .root)) z r → Makes withNegation o r
+pub negation-made : (o z r : Parsed) → Makes (withPart Falsum) o z → Makes (withCompound Implies (o .root)) z r → Makes withNegation o r
 unfolding withNegation
-negation-made o z r t n m = made withNegation o r t (then-made (withCompound Implies (o .root)) z (compound-grows Implies (o .root)) _ _ n r m)
+negation-made o z r n m = record {
+  named = λ t. then-made (withCompound Implies (o .root)) z (compound-grows Implies (o .root)) _ _ (n .named t) r m;
+  stays = λ f. unmade (withCompound Implies (o .root)) o z r (n .stays f) f m;
+}
 
 -- p = q as (p > q) & (q > p).
-module _ (left : ℕ) (right there : Parsed) (x : Makes (withCompound Implies left) right there) where
-  pub equivalence-made : (back r : Parsed) → there .fits ≡ true → Names (withEntry (held (there .parts)) (compound Implies (right .root) left)) (there .next) back
-      → Makes (withCompound And (there .root)) back r → Makes (withEquivalence left) right r
+module _ (left : ℕ) (right there back r : Parsed) (x : Makes (withCompound Implies left) right there)
+    (y : Makes (withPart (Compound declared.the-variants.Implies (right .root) left)) there back) (m : Makes (withCompound And (there .root)) back r) where
+  both-named : right .fits ≡ true → there .fits ≡ true → Names (withEquivalence left (held (right .parts)) (right .root)) (right .next) r
   unfolding withEquivalence
-  equivalence-made back r t n m =
-      let fit = made-fit _ right there x t in
-      let named = x .named fit in
-      let h = named .holds t in
-      let two = then-made (withCompound And (there .root)) back (compound-grows And (there .root)) _ _ n r m in
-      made (withEquivalence left) right r fit (rw (h .table, h .root, named .next-is) at two)
+  both-named t e =
+      let named = x .named t in
+      let h = named .holds e in
+      let two = then-made (withCompound And (there .root)) back (compound-grows And (there .root)) _ _ (y .named e) r m in
+      rw (h .table, h .root, named .next-is) at two
 
-  pub equivalence-full : there .fits ≡ false → Makes (withEquivalence left) right there
-  unfolding withEquivalence
-  equivalence-full f = record {
-    named = λ t.
-        let n = x .named t in
-        let a = withCompound Implies left (held (right .parts)) (right .root) in
-        let b = withEntry (a .table) (compound Implies (right .root) left) in
-        record {
-          sound = n .sound;
-          next-is = n .next-is;
-          holds = λ e. absurd (false≢true (sym f ∙ e));
-          full = λ e. omega (arith, n .full f, entry-grows (a .table) (compound Implies (right .root) left), entry-grows (b .table) (compound And (a .root) (b .root)));
-        };
-    stays = x .stays;
+  pub equivalence-made : Makes (withEquivalence left) right r
+  equivalence-made = record {
+    named = λ t. go t (there .fits) refl;
+    stays = λ f. let one = x .stays f in let two = unmade _ right there back one f y in unmade _ right back r two f m;
   }
+    where
+      go : right .fits ≡ true → (b : Bool) → there .fits ≡ b → Names (withEquivalence left (held (right .parts)) (right .root)) (right .next) r
+      go t true e = both-named t e
+      go t false e = unfold withEquivalence in
+          let n = x .named t in
+          let two = y .stays e in
+          let same : r ≡ there = unmade _ there back r two e m in
+          let a = withCompound Implies left (held (right .parts)) (right .root) in
+          let b = withEntry (a .table) (compound Implies (right .root) left) in
+          rw same (record {
+            sound = n .sound;
+            next-is = n .next-is;
+            holds = λ u. absurd (false≢true (sym e ∙ u));
+            full = λ u. omega (arith, n .full e, entry-grows (a .table) (compound Implies (right .root) left), entry-grows (b .table) (compound And (a .root) (b .root)));
+          })

@@ -1,10 +1,11 @@
 -- One law for each way in which a reader function reads an operand.
-use mathlib.Core.Bool.{Bool, true, false, false≢true}
+use mathlib.Core.Bool.{Bool, true, false, not, false≢true}
 use mathlib.Core.List.{List, _∷_}
 use mathlib.Core.Path.{_≡_, refl, sym, _∙_, ap, subst}
-use Prim.Native.Nat.{ℕ, _+_, _≤_, _<_}
+use Prim.Native.Nat.{ℕ, _+_, _-_, _≤_, _<_}
 use native.Mathlib.Omega.{arith}
 use borrow.Author.Tests.{eq-eqb, ne-eqb}
+use lib.Dec.{eqb}
 use lib.ListN.{length}
 use Rattle.ipl.specs.Formula.{Formula, iff}
 use Rattle.syntax.specs.Class.{Class, closing, ampersand, bar, greater, equals, tilde, opening, nought, lowercase}
@@ -12,8 +13,10 @@ use Rattle.syntax.specs.Code.{codeOf}
 use Rattle.syntax.specs.Grammar.{Level, negation, conjunction, disjunction, implication, equivalence}
 use Rattle.syntax.specs.Nodes.{Connective, And, Or, Implies, Entry, Named, withEntry, withFormula, connected, WellOrdered, Once}
 use Rattle.syntax.specs.Refusal.{mostNames}
-use Rattle.syntax.specs.Parts.{held, room, Sound, Holds, Names, Makes, withCompound, withNegation, withEquivalence}
-use Rattle.syntax.specs.Descent.{rest, headCode, tail, leafOf, PastSpaces, NextToken, NotNext, Stops, Stands, height, Exceeds, by-rows, by-height, Asks, Gives, Ends}
+use Rattle.syntax.specs.Parts.{entryOf, held, room, Sound, Holds, Names, Makes, withPart, withCompound, withNegation, withEquivalence}
+use Rattle.syntax.specs.Descent.{rest, headCode, tail, leafOf, PastSpaces, NextToken, NotNext, Stops, Stands, height, Exceeds, by-rows, by-height, Asks, Gives, LeafRead}
+use Rattle.syntax.specs.declared.Part.{Part}
+use Rattle.syntax.specs.declared.Part.the-variants.{Letter, Falsum}
 use Rattle.syntax.specs.declared.Parts.{Parts}
 use Rattle.syntax.specs.declared.bytes.Token.{Token}
 use Rattle.syntax.specs.declared.table.Parsed.{Parsed}
@@ -24,7 +27,7 @@ use Rattle.syntax.proofs.Stands.{formula-stands}
 use Rattle.syntax.proofs.Sharing.{equivalence-named}
 use Rattle.syntax.proofs.Names.{taller}
 use Rattle.syntax.proofs.Held.{made-sound, made-next, made-fit, compound-grows}
-use Rattle.syntax.proofs.Derivations.{Single, letter, falsum, not, enclosed, single, Run, done, more, First, run-goes-on, run-ends, first-and, first-or}
+use Rattle.syntax.proofs.Derivations.{Single, letter, falsum, tilded, enclosed, single, Run, done, more, First, run-goes-on, run-ends, first-and, first-or}
 use Rattle.syntax.proofs.Derivations.{Then, alone, both, Leads, then-goes-on, then-ends, leads-implies, leads-equal}
 
 -- ---- two operands and what joins them
@@ -116,6 +119,22 @@ letter-leaf n k e = rw (ne-eqb n 9 (λ i. omega arith)) (ap Entry.letter (omega 
 falsum-leaf : (n : ℕ) → n ≡ 9 → leafOf n ≡ Entry.falsum
 falsum-leaf n e = rw (eq-eqb n 9 e)
 
+-- A leaf by its part, from a table that has room unless the class is that of `~`.
+module _ (p : Parts) (sound : Sound p) (class next : ℕ) (e : Part) (r : Parsed) (m : Makes (withPart e) (record { fits = not (eqb class 7); next = next; root = 0; parts = p }) r) where
+  leaf-made : (9 ≤ class → entryOf e ≡ leafOf class) → LeafRead p class next r
+  leaf-made is = record {
+    sound = made-sound _ _ r sound m;
+    next-is = made-next _ _ r m;
+    named = λ h. subst (λ (x : Entry). Names (withEntry (held p) x) next r) (is h) (m .named (rw (ne-eqb class 7 (λ i. omega arith))));
+    no-room = λ i. let none : not (eqb class 7) ≡ false = rw (eq-eqb class 7 i) in ap (λ (x : Parsed). x .fits) (m .stays none) ∙ none;
+  }
+
+  pub letter-made : 10 ≤ class → e ≡ Letter (class - 10) → LeafRead p class next r
+  letter-made h k = leaf-made (λ l. ap entryOf k ∙ sym (letter-leaf class (class - 10) (omega arith)))
+
+  pub falsum-made : class ≤ 9 → e ≡ Falsum → LeafRead p class next r
+  falsum-made h k = leaf-made (λ l. ap entryOf k ∙ sym (falsum-leaf class (omega arith)))
+
 -- ---- the next operand
 
 module _ (s : List ℕ) (at : ℕ) (p : Parts) (d : ℕ) where
@@ -138,13 +157,13 @@ module _ (s : List ℕ) (at : ℕ) (p : Parts) (d : ℕ) where
       record { formula = g; behind = z; stands = x; inside = asked .inside; sound = asked .sound; ordered = asked .ordered; once = asked .once; near = asked .near }
 
   -- The reading ended at a connective within too many others.
-  ended-deep : (k : Level) (next : ℕ) (r : Parsed) (q : Parts) → Ends q next r → at < next → next ≤ length s → Sound q
+  ended-deep : (k : Level) (r : Parsed) → r .fits ≡ false → at < r .next → r .next ≤ length s → Sound (r .parts)
       → ((f : Formula) (z : List Class) → Stands k (rest s at) f z → mostNames < d + height f) → Gives k s at p d r
-  ended-deep k next r q e forward inside sound tall = record {
-    forward = rw (e .next-is) forward;
-    inside = rw (e .next-is) inside;
-    sound = rw (e .parts-are) sound;
-    read = λ f z x t. absurd (false≢true (sym (e .large) ∙ t));
+  ended-deep k r e forward inside sound tall = record {
+    forward = forward;
+    inside = inside;
+    sound = sound;
+    read = λ f z x t. absurd (false≢true (sym e ∙ t));
     large = λ f z x t. by-height (tall f z x);
   }
 
@@ -278,8 +297,8 @@ module _ (s : List ℕ) (at : ℕ) (p : Parts) (d : ℕ) where
             let x = right-of (asked .formula) (asked .behind) (asked .stands) in
             asks-next k b asked (x .first) left (x .holds) (y .sound) t next (x .second) (asked .behind) (x .stands) e few
 
-        pub deep-right : d ≡ mostNames → left .next < t .next → (r : Parsed) → Ends (left .parts) (t .next) r → Gives k s at p d r
-        deep-right full on r e = ended-deep k (t .next) r (left .parts) e (omega (arith, y .forward)) (next .inside) (y .sound) (λ f z x.
+        pub deep-right : d ≡ mostNames → Gives k s at p d (record { fits = false; next = left .next; root = left .root; parts = left .parts })
+        deep-right full = ended-deep k _ refl (y .forward) (y .inside) (y .sound) (λ f z x.
             let w = right-of f z x in
             omega (arith, ap height (w .is), G .joins .tall (w .first) (w .second) .0))
 
@@ -305,40 +324,40 @@ module _ (s : List ℕ) (at : ℕ) (p : Parts) (d : ℕ) where
   -- ---- `~`, parentheses, leaves
 
   module _ (t : Token) (next : NextToken s at t) where
-    -- The operand by its first token.
-    pub leaf-class : Asks negation s at p d → (t .class ≡ 7 → ⊥) → (t .class ≡ 8 → ⊥) → 9 ≤ t .class
-    unfolding codeOf
-    leaf-class asked no-not no-paren = go (single (rest s at) (asked .formula) (asked .behind) (asked .stands))
-      where
-        go : Single (rest s at) (asked .formula) (asked .behind) → 9 ≤ t .class
-        go (letter k e l) = omega (arith, token-is s at t next (lowercase k) _ l .0)
-        go (falsum e l) = omega (arith, token-is s at t next nought _ l .0)
-        go (not g m e l x) = absurd (no-not (token-is s at t next tilde _ l .0))
-        go (enclosed m l x) = absurd (no-paren (token-is s at t next opening _ l .0))
-
     -- A leaf.
-    pub leaf-gives : Asks negation s at p d → (t .class ≡ 7 → ⊥) → (t .class ≡ 8 → ⊥) → (n : ℕ) → PastSpaces s (t .next) n → (r : Parsed) → Names (withEntry (held p) (leafOf (t .class))) n r
-        → Gives negation s at p d r
-    unfolding codeOf withFormula
-    leaf-gives asked no-not no-paren n past r y =
-        let class = leaf-class asked no-not no-paren in
-        record {
-          forward = omega (arith, next .forward (omega arith), past .forward, y .next-is);
-          inside = omega (arith, past .inside, y .next-is);
-          sound = y .sound;
-          read = λ f z x u. let w = leaf-is f z (single (rest s at) f z x) in (ap (rest s) (y .next-is) ∙ past .same ∙ w .1, subst (λ (m : Named). Holds m r) (sym (w .0)) (y .holds u));
-          large = λ f z x u. let w = leaf-is f z (single (rest s at) f z x) in by-rows (subst (λ (m : Named). room < length (m .table)) (sym (w .0)) (y .full u));
-        }
-      where
-        leaf-is : (f : Formula) (z : List Class) → Single (rest s at) f z → (withFormula (held p) f ≡ withEntry (held p) (leafOf (t .class))) × (rest s (t .next) ≡ z)
-        leaf-is f z (letter k e l) =
-            let w = token-is s at t next (lowercase k) _ l in
-            (ap (withFormula (held p)) e ∙ ap (withEntry (held p)) (sym (letter-leaf (t .class) k (w .0))), w .1)
-        leaf-is f z (falsum e l) =
-            let w = token-is s at t next nought _ l in
-            (ap (withFormula (held p)) e ∙ ap (withEntry (held p)) (sym (falsum-leaf (t .class) (w .0))), w .1)
-        leaf-is f z (not g m e l x) = absurd (no-not (token-is s at t next tilde _ l .0))
-        leaf-is f z (enclosed m l x) = absurd (no-paren (token-is s at t next opening _ l .0))
+    module _ (asked : Asks negation s at p d) (no-not : t .class ≡ 7 → ⊥) (no-paren : t .class ≡ 8 → ⊥) where
+      leaf-class : 9 ≤ t .class
+      unfolding codeOf
+      leaf-class = go (single (rest s at) (asked .formula) (asked .behind) (asked .stands))
+        where
+          go : Single (rest s at) (asked .formula) (asked .behind) → 9 ≤ t .class
+          go (letter k e l) = omega (arith, token-is s at t next (lowercase k) _ l .0)
+          go (falsum e l) = omega (arith, token-is s at t next nought _ l .0)
+          go (tilded g m e l x) = absurd (no-not (token-is s at t next tilde _ l .0))
+          go (enclosed m l x) = absurd (no-paren (token-is s at t next opening _ l .0))
+
+      leaf-is : (f : Formula) (z : List Class) → Single (rest s at) f z → (withFormula (held p) f ≡ withEntry (held p) (leafOf (t .class))) × (rest s (t .next) ≡ z)
+      unfolding codeOf withFormula
+      leaf-is f z (letter k e l) =
+          let w = token-is s at t next (lowercase k) _ l in
+          (ap (withFormula (held p)) e ∙ ap (withEntry (held p)) (sym (letter-leaf (t .class) k (w .0))), w .1)
+      leaf-is f z (falsum e l) =
+          let w = token-is s at t next nought _ l in
+          (ap (withFormula (held p)) e ∙ ap (withEntry (held p)) (sym (falsum-leaf (t .class) (w .0))), w .1)
+      leaf-is f z (tilded g m e l x) = absurd (no-not (token-is s at t next tilde _ l .0))
+      leaf-is f z (enclosed m l x) = absurd (no-paren (token-is s at t next opening _ l .0))
+
+      pub leaf-gives : (n : ℕ) → PastSpaces s (t .next) n → (r : Parsed) → LeafRead p (t .class) n r → Gives negation s at p d r
+      leaf-gives n past r x =
+          let class = leaf-class in
+          let y = x .named class in
+          record {
+            forward = omega (arith, next .forward (omega arith), past .forward, y .next-is);
+            inside = omega (arith, past .inside, y .next-is);
+            sound = y .sound;
+            read = λ f z i u. let w = leaf-is f z (single (rest s at) f z i) in (ap (rest s) (y .next-is) ∙ past .same ∙ w .1, subst (λ (m : Named). Holds m r) (sym (w .0)) (y .holds u));
+            large = λ f z i u. let w = leaf-is f z (single (rest s at) f z i) in by-rows (subst (λ (m : Named). room < length (m .table)) (sym (w .0)) (y .full u));
+          }
 
     -- `~` and an operand.
     module _ (asked : Asks negation s at p d) (i : t .class ≡ 7) where
@@ -354,7 +373,7 @@ module _ (s : List ℕ) (at : ℕ) (p : Parts) (d : ℕ) where
           go : Single (rest s at) f z → Negated f z
           go (letter k e l) = absurd (omega (arith, token-is s at t next (lowercase k) _ l .0))
           go (falsum e l) = absurd (omega (arith, token-is s at t next nought _ l .0))
-          go (not g m e l y) = record { operand = g; is = e; stands = rw (token-is s at t next tilde _ l .1) y }
+          go (tilded g m e l y) = record { operand = g; is = e; stands = rw (token-is s at t next tilde _ l .1) y }
           go (enclosed m l y) = absurd (omega (arith, token-is s at t next opening _ l .0))
 
       pub asks-not : d + 1 ≤ mostNames → Asks negation s (t .next) p (d + 1)
@@ -371,8 +390,9 @@ module _ (s : List ℕ) (at : ℕ) (p : Parts) (d : ℕ) where
             near = few;
           }
 
-      pub deep-not : d ≡ mostNames → (r : Parsed) → Ends p (t .next) r → Gives negation s at p d r
-      deep-not full r e = ended-deep negation (t .next) r p e (next .forward (omega arith)) (next .inside) (asked .sound) (λ f z x.
+      pub deep-not : d ≡ mostNames → (r : Parsed) → LeafRead p (t .class) (t .next) r → Gives negation s at p d r
+      deep-not full r e =
+          ended-deep negation r (e .no-room i) (omega (arith, next .forward (omega arith), e .next-is)) (omega (arith, next .inside, e .next-is)) (e .sound) (λ f z x.
           let w = negated f z x in
           omega (arith, ap height (w .is), taller Implies (w .operand) Formula.falsum .0))
 
@@ -406,7 +426,7 @@ module _ (s : List ℕ) (at : ℕ) (p : Parts) (d : ℕ) where
           go : Single (rest s at) f z → Stands equivalence (rest s (t .next)) f (closing ∷ z)
           go (letter k e l) = absurd (omega (arith, token-is s at t next (lowercase k) _ l .0))
           go (falsum e l) = absurd (omega (arith, token-is s at t next nought _ l .0))
-          go (not g m e l y) = absurd (omega (arith, token-is s at t next tilde _ l .0))
+          go (tilded g m e l y) = absurd (omega (arith, token-is s at t next tilde _ l .0))
           go (enclosed m l y) = rw (token-is s at t next opening _ l .1) y
 
       pub asks-inner : Asks negation s at p d → Asks equivalence s (t .next) p d

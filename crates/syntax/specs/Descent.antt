@@ -9,9 +9,9 @@ use Rattle.syntax.specs.Class.{Class, ampersand, bar, greater, equals, t
 use Rattle.syntax.specs.Code.{codeOf}
 use Rattle.ipl.specs.Formula.{Formula}
 use Rattle.syntax.specs.Grammar.{Level, negation, conjunction, disjunction, implication, equivalence, Parses}
-use Rattle.syntax.specs.Nodes.{Entry, letter, falsum, withFormula, WellOrdered, Once}
+use Rattle.syntax.specs.Nodes.{Entry, letter, falsum, withEntry, withFormula, WellOrdered, Once}
 use Rattle.syntax.specs.Refusal.{mostNames}
-use Rattle.syntax.specs.Parts.{held, room, Sound, Holds}
+use Rattle.syntax.specs.Parts.{held, room, Sound, Holds, Names}
 use Rattle.syntax.specs.declared.Parts.{Parts}
 use Rattle.syntax.specs.declared.bytes.Token.{Token}
 use Rattle.syntax.specs.declared.table.Parsed.{Parsed}
@@ -31,6 +31,13 @@ tail (c ∷ l) = l
 -- The leaf that a token of this class is: ⊥, or a letter.
 abbrev pub leafOf : ℕ → Entry
 leafOf class = cond (eqb class 9) falsum (letter (class - 10))
+
+-- A leaf was named, up to a position; a `~` has no room.
+pub record LeafRead (p : Parts) (class next : ℕ) (r : Parsed) : Type 0 where
+  pub sound : Sound (r .parts)
+  pub next-is : r .next ≡ next
+  pub named : 9 ≤ class → Names (withEntry (held p) (leafOf class)) next r
+  pub no-room : class ≡ 7 → r .fits ≡ false
 
 -- A position past the spaces from another on.
 pub record PastSpaces (s : List ℕ) (at r : ℕ) : Type 0 where
@@ -96,9 +103,3 @@ pub record Gives (k : Level) (s : List ℕ) (at : ℕ) (p : Parts) (depth : ℕ)
   pub sound : Sound (r .parts)
   pub read : (f : Formula) (behind : List Class) → Stands k (rest s at) f behind → r .fits ≡ true → (rest s (r .next) ≡ behind) × Holds (withFormula (held p) f) r
   pub large : (f : Formula) (behind : List Class) → Stands k (rest s at) f behind → r .fits ≡ false → Exceeds (held p) depth f
-
--- The reading ends.
-pub record Ends (p : Parts) (next : ℕ) (r : Parsed) : Type 0 where
-  pub large : r .fits ≡ false
-  pub next-is : r .next ≡ next
-  pub parts-are : r .parts ≡ p

@@ -57,6 +57,11 @@ pub record Makes (W : List Entry → ℕ → Named) (o r : Parsed) : Type 0 wher
   pub named : o .fits ≡ true → Names (W (held (o .parts)) (o .root)) (o .next) r
   pub stays : o .fits ≡ false → r ≡ o
 
+-- The part in the place of the operand.
+abbrev pub withPart : Part → List Entry → ℕ → Named
+withPart e T a = withEntry T (entryOf e)
+
+-- The compound of an operand with this index and the one after it.
 abbrev pub withCompound : Connective → ℕ → List Entry → ℕ → Named
 withCompound c a T b = withEntry T (compound c a b)
 

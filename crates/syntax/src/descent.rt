@@ -10,99 +10,96 @@ use super::Parts;
 use super::bytes;
 use super::table;
 use table::Parsed;
-ghost use Prim.Native.Nat.{_≤_};
-ghost use Rattle.syntax.specs.Nodes.{withEntry};
-ghost use Rattle.syntax.specs.Parts.{held, Sound, Names};
-ghost use Rattle.syntax.specs.Descent.{leafOf, Asks, Gives, Ends};
+ghost use Rattle.syntax.specs.Parts.{Sound};
+ghost use Rattle.syntax.specs.Descent.{LeafRead, Asks, Gives};
 ghost use Rattle.syntax.specs.Grammar.{Level};
 
-// ⊥ or a letter, by its class.
+// ⊥ or a letter, by its class. A `~` comes here where it stands within too many connectives, and has no room.
 fn leaf(parts: Parts, class: u8, next: usize) -> Parsed
-    requires { ⌜ (9 ≤ class) × Sound parts ⌝ }
-    ensures { λ r. ⌜ Names (withEntry (held parts) (leafOf class)) next r ⌝ }
+    requires { ⌜ Sound parts ⌝ }
+    ensures { λ r. ⌜ LeafRead parts class next r ⌝ }
 {
-    if class == bytes::FALSUM {
-        return table::with_part(parts, Part::Falsum, next);
-    }
-    let letter = class - bytes::LETTER;
-    table::with_part(parts, Part::Letter(letter), next)
-}
-
-// The reading ends: too many connectives stand within one another.
-fn ended(parts: Parts, next: usize) -> Parsed
-    ensures { λ r. ⌜ Ends parts next r ⌝ }
-{
-    Parsed {
-        fits: false,
+    let before = Parsed {
+        fits: class != bytes::NOT,
         next,
         root: 0,
         parts,
+    };
+    if bytes::is_letter(class) {
+        let letter = class - bytes::LETTER;
+        return table::with_part(before, Part::Letter(letter));
     }
+    table::with_part(before, Part::Falsum)
 }
 
 pub fn equivalence(s: &[u8], at: usize, parts: Parts, depth: usize) -> Parsed
     requires { ⌜ Asks Level.equivalence (now s) at parts depth ⌝ }
     ensures { λ r. ⌜ Gives Level.equivalence (now (s .entry)) at parts depth r ⌝ }
 {
-    let left = implication(s, at, parts, depth);
-    if left.fits {
-        let t = bytes::next_token(s, left.next);
+    let mut whole = implication(s, at, parts, depth);
+    if whole.fits {
+        let t = bytes::next_token(s, whole.next);
         if t.class == bytes::EQUALS {
-            let right = implication(s, t.next, left.parts, depth);
-            return table::equivalence(left.root, right);
+            let left = whole.root;
+            whole = implication(s, t.next, whole.parts, depth);
+            whole = table::equivalence(left, whole);
         }
     }
-    left
+    whole
 }
 
 fn implication(s: &[u8], at: usize, parts: Parts, depth: usize) -> Parsed
     requires { ⌜ Asks Level.implication (now s) at parts depth ⌝ }
     ensures { λ r. ⌜ Gives Level.implication (now (s .entry)) at parts depth r ⌝ }
 {
-    let left = disjunction(s, at, parts, depth);
-    if left.fits {
-        let t = bytes::next_token(s, left.next);
+    let mut whole = disjunction(s, at, parts, depth);
+    if whole.fits {
+        let t = bytes::next_token(s, whole.next);
         if t.class == bytes::IMPLIES {
             if depth == MOST_NAMES {
-                return ended(left.parts, t.next);
+                whole.fits = false;
+                return whole;
             }
-            let right = implication(s, t.next, left.parts, depth + 1);
-            return table::compound(Connective::Implies, left.root, right);
+            let left = whole.root;
+            whole = implication(s, t.next, whole.parts, depth + 1);
+            whole = table::compound(Connective::Implies, left, whole);
         }
     }
-    left
+    whole
 }
 
 fn disjunction(s: &[u8], at: usize, parts: Parts, depth: usize) -> Parsed
     requires { ⌜ Asks Level.disjunction (now s) at parts depth ⌝ }
     ensures { λ r. ⌜ Gives Level.disjunction (now (s .entry)) at parts depth r ⌝ }
 {
-    let mut left = conjunction(s, at, parts, depth);
-    while left.fits {
-        let t = bytes::next_token(s, left.next);
+    let mut whole = conjunction(s, at, parts, depth);
+    while whole.fits {
+        let t = bytes::next_token(s, whole.next);
         if t.class != bytes::OR {
-            return left;
+            return whole;
         }
-        let right = conjunction(s, t.next, left.parts, depth);
-        left = table::compound(Connective::Or, left.root, right);
+        let left = whole.root;
+        whole = conjunction(s, t.next, whole.parts, depth);
+        whole = table::compound(Connective::Or, left, whole);
     }
-    left
+    whole
 }
 
 fn conjunction(s: &[u8], at: usize, parts: Parts, depth: usize) -> Parsed
     requires { ⌜ Asks Level.conjunction (now s) at parts depth ⌝ }
     ensures { λ r. ⌜ Gives Level.conjunction (now (s .entry)) at parts depth r ⌝ }
 {
-    let mut left = negation(s, at, parts, depth);
-    while left.fits {
-        let t = bytes::next_token(s, left.next);
+    let mut whole = negation(s, at, parts, depth);
+    while whole.fits {
+        let t = bytes::next_token(s, whole.next);
         if t.class != bytes::AND {
-            return left;
+            return whole;
         }
-        let right = negation(s, t.next, left.parts, depth);
-        left = table::compound(Connective::And, left.root, right);
+        let left = whole.root;
+        whole = negation(s, t.next, whole.parts, depth);
+        whole = table::compound(Connective::And, left, whole);
     }
-    left
+    whole
 }
 
 fn negation(s: &[u8], at: usize, parts: Parts, depth: usize) -> Parsed
@@ -112,9 +109,10 @@ fn negation(s: &[u8], at: usize, parts: Parts, depth: usize) -> Parsed
     let t = bytes::next_token(s, at);
     if t.class == bytes::NOT {
         if depth == MOST_NAMES {
-            return ended(parts, t.next);
+            return leaf(parts, t.class, t.next);
         }
-        return table::negation(negation(s, t.next, parts, depth + 1));
+        let operand = negation(s, t.next, parts, depth + 1);
+        return table::negation(operand);
     }
     if t.class == bytes::OPENING {
         let mut inner = equivalence(s, t.next, parts, depth);

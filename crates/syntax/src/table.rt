@@ -5,8 +5,8 @@ use super::PARTS;
 use super::Part;
 use super::Parts;
 ghost use mathlib.Core.Path.{_≡_};
-ghost use Rattle.syntax.specs.Nodes.{named, numberOf, same, indexOf, withEntry, Once};
-ghost use Rattle.syntax.specs.Parts.{connectiveOf, entryOf, held, Sound, Empty, Names, Makes, withCompound, withNegation, withEquivalence};
+ghost use Rattle.syntax.specs.Nodes.{named, numberOf, same, indexOf, Once};
+ghost use Rattle.syntax.specs.Parts.{connectiveOf, entryOf, held, Sound, Empty, Makes, withPart, withCompound, withNegation, withEquivalence};
 
 // An operand that was read: the position after it, and its index in the table. Or it has parts for which the table has no room, and
 // the reading ends.
@@ -81,11 +81,16 @@ fn index_of(parts: Parts, part: Part) -> u8
     i
 }
 
-// A part that ends before a position: found again, or in a new row.
-pub fn with_part(parts: Parts, part: Part, next: usize) -> Parsed
-    requires { ⌜ Sound parts ⌝ }
-    ensures { λ r. ⌜ Names (withEntry (held parts) (entryOf part)) next r ⌝ }
+// A part in the place of an operand: found again, or in a new row.
+pub fn with_part(p: Parsed, part: Part) -> Parsed
+    requires { ⌜ Sound (p .parts) ⌝ }
+    ensures { λ r. ⌜ Makes (withPart part) p r ⌝ }
 {
+    if !p.fits {
+        return p;
+    }
+    let next = p.next;
+    let mut parts = p.parts;
     let root = index_of(parts, part);
     if root < parts.count {
         return Parsed {
@@ -97,14 +102,13 @@ pub fn with_part(parts: Parts, part: Part, next: usize) -> Parsed
     }
     let i = root as usize;
     if i < PARTS {
-        let mut more = parts;
-        more.nodes[i] = Node { part };
-        more.count = root + 1;
+        parts.nodes[i] = Node { part };
+        parts.count = root + 1;
         return Parsed {
             fits: true,
             next,
             root,
-            parts: more,
+            parts,
         };
     }
     Parsed {
@@ -120,11 +124,8 @@ pub fn compound(c: Connective, left: u8, right: Parsed) -> Parsed
     requires { ⌜ Sound (right .parts) ⌝ }
     ensures { λ r. ⌜ Makes (withCompound (connectiveOf c) left) right r ⌝ }
 {
-    if right.fits {
-        let part = Part::Compound(c, left, right.root);
-        return with_part(right.parts, part, right.next);
-    }
-    right
+    let part = Part::Compound(c, left, right.root);
+    with_part(right, part)
 }
 
 // `~p` as p > 0.
@@ -132,11 +133,8 @@ pub fn negation(p: Parsed) -> Parsed
     requires { ⌜ Sound (p .parts) ⌝ }
     ensures { λ r. ⌜ Makes withNegation p r ⌝ }
 {
-    if p.fits {
-        let falsum = with_part(p.parts, Part::Falsum, p.next);
-        return compound(Connective::Implies, p.root, falsum);
-    }
-    p
+    let falsum = with_part(p, Part::Falsum);
+    compound(Connective::Implies, p.root, falsum)
 }
 
 // p = q as (p > q) & (q > p).
@@ -145,12 +143,9 @@ pub fn equivalence(left: u8, right: Parsed) -> Parsed
     ensures { λ r. ⌜ Makes (withEquivalence left) right r ⌝ }
 {
     let there = compound(Connective::Implies, left, right);
-    if there.fits {
-        let part = Part::Compound(Connective::Implies, right.root, left);
-        let back = with_part(there.parts, part, there.next);
-        return compound(Connective::And, there.root, back);
-    }
-    there
+    let part = Part::Compound(Connective::Implies, right.root, left);
+    let back = with_part(there, part);
+    compound(Connective::And, there.root, back)
 }
 
 // Letters and names: every row but that of ⊥.

@@ -4,7 +4,6 @@ use mathlib.Core.List.{List}
 use mathlib.Core.Path.{sym, _∙_}
 use Prim.Native.Nat.{ℕ, _+_, _-_, _*_, _<_}
 use lib.ListN.{length}
-use borrow.Author.Needs.{needs}
 use borrow.Fn.Kind.{PK}
 use borrow.Fn.Kinds.{In}
 use borrow.Fn.PlainCycle.{Measures, is, falls, and}
@@ -17,7 +16,7 @@ use Rattle.syntax.proofs.Position.{token-forward}
 use Rattle.syntax.proofs.Held.{made-next}
 use Rattle.syntax.proofs.Operand.{conjunctions, disjunctions, Reached, asks-one, one-reached, asks-more, more-reached, reached-end}
 use Rattle.syntax.proofs.Operand.{implications, equivalences, asks-left, left-only, asks-right, deep-right, joined}
-use Rattle.syntax.proofs.Operand.{asks-not, deep-not, not-gives, asks-inner, inner-gives, leaf-class, leaf-gives}
+use Rattle.syntax.proofs.Operand.{asks-not, deep-not, not-gives, asks-inner, inner-gives, leaf-gives}
 use Rattle.syntax.proofs.descent.conjunction.Reads as conjunction
 use Rattle.syntax.proofs.descent.+conjunction+disjunction+equivalence+implication+negation.Lts-conjunction as conjunction-lts
 use Rattle.syntax.proofs.descent.disjunction.Reads as disjunction
@@ -34,7 +33,6 @@ use Rattle.syntax.proofs.bytes.next_token.Reads as next-token-reads
 use Rattle.syntax.proofs.table.compound.Reads as compound-reads
 use Rattle.syntax.proofs.table.equivalence.Reads as equivalence-reads
 use Rattle.syntax.proofs.descent.leaf.Reads as leaf-reads
-use Rattle.syntax.proofs.descent.ended.Reads as ended-reads
 use Rattle.syntax.proofs.table.negation.Reads as negation-reads
 use Rattle.syntax.proofs.descent.+conjunction+disjunction+equivalence+implication+negation.{statement}
 use Rattle.syntax.proofs.descent.+conjunction+disjunction+equivalence+implication+negation.Tie.{close}
@@ -67,8 +65,6 @@ implication-claims t = (
   disjunction.Post,
   next-token-reads.Asked,
   next-token-reads.Learnt,
-  ended-reads.Asked,
-  ended-reads.Learnt,
   below 4 implication.Pre t,
   implication.Post,
   compound-reads.Asked,
@@ -79,8 +75,8 @@ abbrev negation-claims : ℕ → negation-lts.Claims
 negation-claims t = (
   next-token-reads.Asked,
   next-token-reads.Learnt,
-  ended-reads.Asked,
-  ended-reads.Learnt,
+  leaf-reads.Asked,
+  leaf-reads.Learnt,
   below 1 negation.Pre t,
   negation.Post,
   negation-reads.Asked,
@@ -89,8 +85,6 @@ negation-claims t = (
   equivalence.Post,
   past-spaces-reads.Asked,
   past-spaces-reads.Learnt,
-  leaf-reads.Asked,
-  leaf-reads.Learnt,
 )
 
 abbrev conjunction-Inv-loop : conjunction-lts.InvT-loop
@@ -265,12 +259,10 @@ implication-next-token-requires t c κs = c .before .disjunction .ensures .insid
 implication-returns : (t : ℕ) → implication-lts.Need-returns (implication-claims t) (here 4 implication.Pre t) implication.Post
 unfolding codeOf
 implication-returns t c =
-    let test = c .before .before in
+    let test = c .before in
     let token = test .before .before in
     let first = token .before .before in
-    let k = token .next-token .ensures in
-    deep-right _ _ _ _ implications (first .before .before .pre .1) _ (first .disjunction .ensures) (token .before .if1 .taken) _ k (test .if2 .taken) (c .before .if3 .taken)
-    (token-forward _ _ _ k 4 (test .if2 .taken) (omega arith)) _ (c .ended .ensures)
+    deep-right _ _ _ _ implications (first .before .before .pre .1) _ (first .disjunction .ensures) (token .before .if1 .taken) _ (token .next-token .ensures) (test .if2 .taken) (c .if3 .taken)
 
 implication-add-implication : (t : ℕ) → implication-lts.Need-add-implication (implication-claims t) (here 4 implication.Pre t) implication.Post
 implication-add-implication t c =
@@ -318,11 +310,14 @@ implication-returns-4 t c =
 negation-next-token-requires : (t : ℕ) → negation-lts.Need-next-token-requires (negation-claims t) (here 1 negation.Pre t) negation.Post
 negation-next-token-requires t c κs = c .before .pre .1 .inside
 
+negation-leaf-requires : (t : ℕ) → negation-lts.Need-leaf-requires (negation-claims t) (here 1 negation.Pre t) negation.Post
+negation-leaf-requires t c κs = c .before .before .before .before .before .pre .1 .sound
+
 negation-returns : (t : ℕ) → negation-lts.Need-returns (negation-claims t) (here 1 negation.Pre t) negation.Post
 negation-returns t c =
     let test = c .before .before in
     let token = test .before .before in
-    deep-not _ _ _ _ _ (token .next-token .ensures) (token .before .before .pre .1) (test .if1 .taken) (c .before .if2 .taken) _ (c .ended .ensures)
+    deep-not _ _ _ _ _ (token .next-token .ensures) (token .before .before .pre .1) (test .if1 .taken) (c .before .if2 .taken) _ (c .leaf .ensures)
 
 negation-add-negation : (t : ℕ) → negation-lts.Need-add-negation (negation-claims t) (here 1 negation.Pre t) negation.Post
 negation-add-negation t c = omega (arith, c .before .before .before .before .before .pre .1 .near)
@@ -370,18 +365,14 @@ negation-returns-3 t c =
 negation-past-spaces-requires-2 : (t : ℕ) → negation-lts.Need-past-spaces-requires-2 (negation-claims t) (here 1 negation.Pre t) negation.Post
 negation-past-spaces-requires-2 t c κs = c .before .before .before .before .next-token .ensures .inside
 
-negation-leaf-requires : (t : ℕ) → negation-lts.Need-leaf-requires (negation-claims t) (here 1 negation.Pre t) negation.Post
-negation-leaf-requires t c κs =
-    let test = c .before in
-    let token = test .before .before .before .before in
-    let asked = token .before .before .pre .1 in
-    (leaf-class _ _ _ _ _ (token .next-token .ensures) asked (test .before .before .if1 .left) (test .if3 .left), asked .sound)
+negation-leaf-requires-2 : (t : ℕ) → negation-lts.Need-leaf-requires-2 (negation-claims t) (here 1 negation.Pre t) negation.Post
+negation-leaf-requires-2 t c κs = c .before .before .before .before .before .before .before .pre .1 .sound
 
 negation-returns-4 : (t : ℕ) → negation-lts.Need-returns-4 (negation-claims t) (here 1 negation.Pre t) negation.Post
 negation-returns-4 t c =
     let test = c .before .before in
     let token = test .before .before .before .before in
-    leaf-gives _ _ _ _ _ (token .next-token .ensures) (token .before .before .pre .1) (test .before .before .if1 .left) (test .if3 .left) _ (c .before .past-spaces2 .ensures) _ (c .leaf .ensures)
+    leaf-gives _ _ _ _ _ (token .next-token .ensures) (token .before .before .pre .1) (test .before .before .if1 .left) (test .if3 .left) _ (c .before .past-spaces2 .ensures) _ (c .leaf2 .ensures)
 
 pub +conjunction+disjunction+equivalence+implication+negation-spec : {M : Type 1} → statement M
 +conjunction+disjunction+equivalence+implication+negation-spec =
@@ -429,7 +420,6 @@ pub +conjunction+disjunction+equivalence+implication+negation-spec : {M : Type 1
     implication.Post
     (implication-disjunction-requires t)
     (implication-next-token-requires t)
-    (λ c κs. search needs)
     (implication-returns t)
     (implication-add-implication t)
     (implication-implication-requires t)
@@ -441,7 +431,7 @@ pub +conjunction+disjunction+equivalence+implication+negation-spec : {M : Type 1
     (here 1 negation.Pre t)
     negation.Post
     (negation-next-token-requires t)
-    (λ c κs. search needs)
+    (negation-leaf-requires t)
     (negation-returns t)
     (negation-add-negation t)
     (negation-negation-requires t)
@@ -452,5 +442,5 @@ pub +conjunction+disjunction+equivalence+implication+negation-spec : {M : Type 1
     (negation-past-spaces-requires t)
     (negation-returns-3 t)
     (negation-past-spaces-requires-2 t)
-    (negation-leaf-requires t)
+    (negation-leaf-requires-2 t)
     (negation-returns-4 t))
