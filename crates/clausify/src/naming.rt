@@ -1,4 +1,4 @@
-// The atoms of a formula's parts: letters in order of first standing, then a name for each connective.
+// The atoms of a formula's parts: letters in order of first standing, then a name for each compound.
 use syntax::Part;
 use syntax::Parts;
 ghost use mathlib.Core.Path.{_≡_};

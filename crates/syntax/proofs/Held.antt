@@ -11,7 +11,8 @@ use lib.Seq.{length-take-le, take-suc-set, getD-take, drop-cons}
 use borrow.Author.Tests.{lt-ltb, le-ltb}
 use Rattle.ipl.proofs.Lists.{map-snoc}
 use Rattle.syntax.specs.Nodes.{Connective, And, Implies, Entry, falsum, compound, Named, same, indexOf, withEntry, named, Once}
-use Rattle.syntax.specs.Parts.{connectiveOf, entryOf, held, room, Sound, Names, Makes, withPart, withCompound, withNegation, withEquivalence}
+use Rattle.syntax.specs.Parts.{connectiveOf, entryOf, held, room, Sound}
+use Rattle.syntax.specs.Table.{Names, Makes, withPart, withCompound, withNegation, withEquivalence}
 use Rattle.syntax.specs.declared.Connective as declared
 use Rattle.syntax.specs.declared.Part.{Part}
 use Rattle.syntax.specs.declared.Part.the-variants.{Falsum, Compound}

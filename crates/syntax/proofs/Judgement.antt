@@ -13,7 +13,8 @@ use Rattle.syntax.specs.Grammar.{equivalence, Reads}
 use Rattle.syntax.specs.Nodes.{Entry, Named, withFormula, nodes, named, Once}
 use Rattle.syntax.specs.Refusal.{mostBytes, BadLength, TooDeep, Longest, mostNames, Refused, line-2, line-3, line-4, Decides}
 use Rattle.syntax.specs.Scan.{ends, Scanned, scanned}
-use Rattle.syntax.specs.Parts.{held, Empty, Holds}
+use Rattle.syntax.specs.Parts.{held, Empty}
+use Rattle.syntax.specs.Table.{Holds}
 use Rattle.syntax.specs.Descent.{rest, Stands, Exceeds, Asks, Gives}
 use Rattle.syntax.specs.Answer.{Read, AnswersWith, Answers, Refuses}
 use Rattle.syntax.specs.declared.Outcome.{Outcome}

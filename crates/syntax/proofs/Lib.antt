@@ -13,6 +13,8 @@ pub mod Sharing
 pub mod Names
 pub mod Held
 pub mod Derivations
+pub mod Joined
+pub mod Grouped
 pub mod Operand
 pub mod Join
 pub mod Beginning

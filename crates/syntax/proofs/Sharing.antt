@@ -12,7 +12,7 @@ use Rattle.ipl.specs.Formula.{Formula, iff}
 use Rattle.syntax.specs.Nodes.{Connective, And, Or, Implies, Entry, letter, falsum, compound, Named, indexOf, withEntry, withFormula, nodes}
 use Rattle.syntax.specs.Nodes.{connected, entryFormula, formulasAfter, formulaAt, Earlier, WellOrdered, Once}
 use Rattle.syntax.specs.Sharing.{completed, StandsIn, Firsts, none, new, again, NamesOf}
-use Rattle.syntax.specs.Parts.{withEquivalence}
+use Rattle.syntax.specs.Table.{withEquivalence}
 use Rattle.syntax.proofs.Growth.{connected-named}
 use Rattle.syntax.proofs.Once.{found, formula-once, entry-once, none-once, table-once}
 use Rattle.syntax.proofs.Stands.{formulas-snoc, size-is, row-formula, Stands, compound-stands, formula-stands, left-inside, left-is, none-ordered, table-ordered}

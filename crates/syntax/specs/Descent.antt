@@ -11,7 +11,8 @@ use Rattle.ipl.specs.Formula.{Formula}
 use Rattle.syntax.specs.Grammar.{Level, negation, conjunction, disjunction, implication, equivalence, Parses}
 use Rattle.syntax.specs.Nodes.{Entry, letter, falsum, withEntry, withFormula, WellOrdered, Once}
 use Rattle.syntax.specs.Refusal.{mostNames}
-use Rattle.syntax.specs.Parts.{held, room, Sound, Holds, Names}
+use Rattle.syntax.specs.Parts.{held, room, Sound}
+use Rattle.syntax.specs.Table.{Holds, Names}
 use Rattle.syntax.specs.declared.Parts.{Parts}
 use Rattle.syntax.specs.declared.bytes.Token.{Token}
 use Rattle.syntax.specs.declared.table.Parsed.{Parsed}

@@ -6,7 +6,8 @@ use super::Part;
 use super::Parts;
 ghost use mathlib.Core.Path.{_≡_};
 ghost use Rattle.syntax.specs.Nodes.{named, numberOf, same, indexOf, Once};
-ghost use Rattle.syntax.specs.Parts.{connectiveOf, entryOf, held, Sound, Empty, Makes, withPart, withCompound, withNegation, withEquivalence};
+ghost use Rattle.syntax.specs.Parts.{connectiveOf, entryOf, held, Sound, Empty};
+ghost use Rattle.syntax.specs.Table.{Makes, withPart, withCompound, withNegation, withEquivalence};
 
 // An operand that was read: the position after it, and its index in the table. Or it has parts for which the table has no room, and
 // the reading ends.

@@ -1,4 +1,4 @@
--- The cycle of calls of the reader functions: the bytes left fall. Each answer cites a law of Operand.
+-- The cycle of calls of the reader functions: the bytes left fall. Each answer cites a law of Operand or Grouped.
 use mathlib.Core.Bool.{false≢true}
 use mathlib.Core.List.{List}
 use mathlib.Core.Path.{sym, _∙_}
@@ -14,8 +14,8 @@ use Rattle.syntax.specs.Descent.{Asks, Gives}
 use Rattle.syntax.specs.declared.Parts.{Parts}
 use Rattle.syntax.proofs.Position.{token-forward}
 use Rattle.syntax.proofs.Held.{made-next}
-use Rattle.syntax.proofs.Operand.{conjunctions, disjunctions, Reached, asks-one, one-reached, asks-more, more-reached, reached-end}
-use Rattle.syntax.proofs.Operand.{implications, equivalences, asks-left, left-only, asks-right, deep-right, joined}
+use Rattle.syntax.proofs.Grouped.{conjunctions, disjunctions, Reached, asks-one, one-reached, asks-more, more-reached, reached-end}
+use Rattle.syntax.proofs.Grouped.{implications, equivalences, asks-left, left-only, asks-right, deep-right, joined}
 use Rattle.syntax.proofs.Operand.{asks-not, deep-not, not-gives, asks-inner, inner-gives, leaf-gives}
 use Rattle.syntax.proofs.descent.conjunction.Reads as conjunction
 use Rattle.syntax.proofs.descent.+conjunction+disjunction+equivalence+implication+negation.Lts-conjunction as conjunction-lts
