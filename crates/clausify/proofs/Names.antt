@@ -43,7 +43,9 @@ module _ (E : List Entry) (ordered : WellOrdered E) (once : Once E) (m : Model) 
       subst (λ (p : Formula). Same m (atomAt E i) (λ v. forces (onLetters E m) v p)) (sym (row-formula E ordered i l))
       (entry-there i l (λ j lj. there k j (omega arith) (omega arith)) (getD E i falsum) refl)
 
-pub names-forced : (t : Formula) (m : Model) → IsModel m → All (ForcesFlat m (m .root)) (flatsBy (calls (nodes t .table))) → All (ForcesImplication m (m .root)) (implicationsBy (calls (nodes t .table)))
-    → (i : ℕ) → i < length (nodes t .table) → (w : ℕ) → w < m .count → T (forcesAtom m w (atomAt (nodes t .table) i)) ↔ forces (onLetters (nodes t .table) m) w (formulaAt (nodes t .table) i)
-names-forced t m ok F X i l =
-    there (nodes t .table) (table-ordered t) (table-once t) m ok (calls-forced m (calls (nodes t .table)) .1 (F, X)) (suc i) i (omega arith) l
+pub names-forced : (f : Formula) (m : Model) → IsModel m
+    → All (ForcesFlat m (m .root)) (flatsBy (calls (nodes f .table))) → All (ForcesImplication m (m .root)) (implicationsBy (calls (nodes f .table)))
+    → (i : ℕ) → i < length (nodes f .table) → (w : ℕ) → w < m .count
+    → T (forcesAtom m w (atomAt (nodes f .table) i)) ↔ forces (onLetters (nodes f .table) m) w (formulaAt (nodes f .table) i)
+names-forced f m ok F X i l =
+    there (nodes f .table) (table-ordered f) (table-once f) m ok (calls-forced m (calls (nodes f .table)) .1 (F, X)) (suc i) i (omega arith) l

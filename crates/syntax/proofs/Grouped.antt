@@ -98,7 +98,7 @@ module _ (s : List ℕ) (at : ℕ) (p : Parts) (d : ℕ) where
     module _ (asked : Asks k s at p d) where
       run-exceeds : {g f : Formula} {m z : List Class} → Run a op c g m f z → Exceeds (held p) d g → Exceeds (held p) d f
       run-exceeds done e = e
-      run-exceeds (more {g} {h} x r) e = run-exceeds r (left-exceeds (connected c) (withCompound c) (connected-joins c) (held p) (asked .ordered) (asked .once) d g h d (omega arith) e)
+      run-exceeds (more {g} {h} x r) e = run-exceeds r (left-exceeds (connected-joins c) (held p) (asked .ordered) (asked .once) d g h d (omega arith) e)
 
       pub one-reached : (r : Parsed) → Gives a s at p d r → Reached r
       one-reached r y = record {
@@ -137,7 +137,7 @@ module _ (s : List ℕ) (at : ℕ) (p : Parts) (d : ℕ) where
               let behind = ap (rest s) (made-next _ right r m) ∙ q (made-fit _ right r m u) .0 in (
                 connected c (v .0) (w .0),
                 subst (λ (n : List Class). Run a op c (connected c (v .0) (w .0)) n f z) (sym behind) (w .3),
-                joined-holds (connected c) (withCompound c) (connected-joins c) (held p) (asked .ordered) (asked .once) d (v .0) (w .0) left right r d (omega arith) (v .2) (λ b. q b .1)
+                joined-holds (connected-joins c) (held p) (asked .ordered) (asked .once) d (v .0) (w .0) left right r d (omega arith) (v .2) (λ b. q b .1)
                     (y .large (w .0) (w .1) (rw (next .left) (w .2))) m u,
               );
           large = λ f z x u.
@@ -145,7 +145,7 @@ module _ (s : List ℕ) (at : ℕ) (p : Parts) (d : ℕ) where
               let w = run-goes-on a op c (v .1) (G .stop z (x .stops)) comes in
               let q = y .read (w .0) (w .1) (rw (next .left) (w .2)) in
               run-exceeds (w .3)
-              (joined-exceeds (connected c) (withCompound c) (connected-joins c) (held p) (asked .ordered) (asked .once) d (v .0) (w .0) left right r d (omega arith) (v .2) (λ b. q b .1)
+              (joined-exceeds (connected-joins c) (held p) (asked .ordered) (asked .once) d (v .0) (w .0) left right r d (omega arith) (v .2) (λ b. q b .1)
               (y .large (w .0) (w .1) (rw (next .left) (w .2))) m u);
         }
 
@@ -171,7 +171,7 @@ module _ (s : List ℕ) (at : ℕ) (p : Parts) (d : ℕ) where
     module _ (asked : Asks k s at p d) (left : Parsed) (y : Gives a s at p d left) where
       then-exceeds : {g f : Formula} {m z : List Class} → Then b op join g m f z → Exceeds (held p) d g → Exceeds (held p) d f
       then-exceeds (alone e q) x = subst (Exceeds (held p) d) e x
-      then-exceeds {g} (both h n q e i) x = subst (Exceeds (held p) d) (sym e) (left-exceeds join W (G .joins) (held p) (asked .ordered) (asked .once) d g h d (omega arith) x)
+      then-exceeds {g} (both h n q e i) x = subst (Exceeds (held p) d) (sym e) (left-exceeds (G .joins) (held p) (asked .ordered) (asked .once) d g h d (omega arith) x)
 
       -- The left operand is the whole; or it has no room.
       pub left-only : (left .fits ≡ true → NotNext op (rest s (left .next))) → Gives k s at p d left
@@ -226,11 +226,11 @@ module _ (s : List ℕ) (at : ℕ) (p : Parts) (d : ℕ) where
               let v = q .read (w .second) z (w .stands) in (
                 ap (rest s) (made-next _ right r m) ∙ v (made-fit _ right r m u) .0,
                 subst (λ (g : Formula). Holds (withFormula (held p) g) r) (sym (w .is))
-                    (joined-holds join W (G .joins) (held p) (asked .ordered) (asked .once) d (w .first) (w .second) left right r e few (w .holds) (λ h. v h .1) (q .large (w .second) z (w .stands)) m u),
+                    (joined-holds (G .joins) (held p) (asked .ordered) (asked .once) d (w .first) (w .second) left right r e few (w .holds) (λ h. v h .1) (q .large (w .second) z (w .stands)) m u),
               );
           large = λ f z x u.
               let w = right-of f z x in
               let v = q .read (w .second) z (w .stands) in
               subst (Exceeds (held p) d) (sym (w .is))
-              (joined-exceeds join W (G .joins) (held p) (asked .ordered) (asked .once) d (w .first) (w .second) left right r e few (w .holds) (λ h. v h .1) (q .large (w .second) z (w .stands)) m u);
+              (joined-exceeds (G .joins) (held p) (asked .ordered) (asked .once) d (w .first) (w .second) left right r e few (w .holds) (λ h. v h .1) (q .large (w .second) z (w .stands)) m u);
         }

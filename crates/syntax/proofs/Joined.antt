@@ -40,7 +40,8 @@ iff-joins = record {
       (omega (arith, there .0, whole .0), omega (arith, there .1, whole .0));
 }
 
-module _ (join : Formula → Formula → Formula) (W : ℕ → List Entry → ℕ → Named) (j : Joins join W) (T : List Entry) (ordered : WellOrdered T) (once : Once T) (d : ℕ) (g h : Formula) where
+module _ {join : Formula → Formula → Formula} {W : ℕ → List Entry → ℕ → Named} (j : Joins join W)
+    (T : List Entry) (ordered : WellOrdered T) (once : Once T) (d : ℕ) (g h : Formula) where
   join-grows : length (withFormula (withFormula T g .table) h .table) ≤ length (withFormula T (join g h) .table)
   join-grows = rw (j .means T ordered once g h) (j .grows (withFormula T g .root) (withFormula (withFormula T g .table) h .table) (withFormula (withFormula T g .table) h .root))
 

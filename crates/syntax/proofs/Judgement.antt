@@ -73,39 +73,49 @@ module _ (s : List ℕ) where
           let z : Scanned s (Fault k) = subst (Scanned s) e a in
           line-3 l f (λ y. false≢true (sym (z .0) ∙ formula-scanned s y)) (subst (Longest s) (sym (z .1)) (longest s))
 
-      module _ (w : ends (scanned s) ≡ true) (p : Parts) (e : Empty p) (r : Parsed) (g : Gives equivalence s 0 p 0 r) where
-        abbrev formula : Formula
-        formula = scanned-formula s w .0
+-- No line before the fourth holds, and the descent was made from an empty table.
+pub record Descended (s : List ℕ) (p : Parts) (r : Parsed) : Type 0 where
+  pub length-right : BadLength s → ⊥
+  pub depth-right : TooDeep s → ⊥
+  pub fits : ends (scanned s) ≡ true
+  pub empty : Empty p
+  pub gives : Gives equivalence s 0 p 0 r
 
-        reads : Reads s formula
-        reads = scanned-formula s w .1
+module _ (s : List ℕ) (p : Parts) (r : Parsed) (d : Descended s p r) where
+  abbrev formula : Formula
+  formula = scanned-formula s (d .fits) .0
 
-        from-none : withFormula (held p) formula ≡ nodes formula
-        from-none = unfold nodes in ap (λ (T : List Entry). withFormula T formula) (e .none)
+  reads : Reads s formula
+  reads = scanned-formula s (d .fits) .1
 
-        whole : r .fits ≡ true → Holds (nodes formula) r
-        whole t = subst (λ (n : Named). Holds n r) from-none (g .read formula [] (all-stands formula reads) t .1)
+  from-none : withFormula (held p) formula ≡ nodes formula
+  from-none = unfold nodes in ap (λ (T : List Entry). withFormula T formula) (d .empty .none)
 
-        -- Line 4: by the rows, or by what stands within one another; by the names.
-        pub refused-large : r .fits ≡ false → Refused s 4 0
-        refused-large t = line-4 l f reads (exceeds-large formula (subst (λ (T : List Entry). Exceeds T 0 formula) (e .none) (g .large formula [] (all-stands formula reads) t)))
+  whole : r .fits ≡ true → Holds (nodes formula) r
+  whole t = subst (λ (n : Named). Holds n r) from-none (d .gives .read formula [] (all-stands s formula reads) t .1)
 
-        module _ (t : r .fits ≡ true) where
-          pub parts-once : Once (held (r .parts))
-          parts-once = rw (whole t .table) (table-once formula)
+  -- Line 4: by the rows, or by what stands within one another; by the names.
+  pub refused-large : r .fits ≡ false → Refused s 4 0
+  refused-large t =
+      let large = d .gives .large formula [] (all-stands s formula reads) t in
+      line-4 (d .length-right) (d .depth-right) reads (exceeds-large formula (subst (λ (T : List Entry). Exceeds T 0 formula) (d .empty .none) large))
 
-          module _ (n : ℕ) (m : n ≡ named (held (r .parts))) where
-            size : n ≡ named (nodes formula .table)
-            size = m ∙ ap named (whole t .table)
+  module _ (t : r .fits ≡ true) where
+    pub parts-once : Once (held (r .parts))
+    parts-once = rw (whole t .table) (table-once formula)
 
-            pub refused-many : mostNames < n → Refused s 4 0
-            refused-many h = line-4 l f reads (omega (arith, size))
+    module _ (n : ℕ) (m : n ≡ named (held (r .parts))) where
+      size : n ≡ named (nodes formula .table)
+      size = m ∙ ap named (whole t .table)
 
-            pub accepted : n ≤ mostNames → Read s (r .root) (r .parts)
-            accepted h = record {
-              formula = formula;
-              sound = g .sound;
-              accepted = record { length-right = l; depth-right = f; reads = reads; size-right = λ z. omega (arith, size) };
-              table-is = whole t .table;
-              root-is = whole t .root;
-            }
+      pub refused-many : mostNames < n → Refused s 4 0
+      refused-many h = line-4 (d .length-right) (d .depth-right) reads (omega (arith, size))
+
+      pub accepted : n ≤ mostNames → Read s (r .root) (r .parts)
+      accepted h = record {
+        formula = formula;
+        sound = d .gives .sound;
+        accepted = record { length-right = d .length-right; depth-right = d .depth-right; reads = reads; size-right = λ z. omega (arith, size) };
+        table-is = whole t .table;
+        root-is = whole t .root;
+      }

@@ -14,7 +14,7 @@ use Rattle.syntax.specs.Grammar.{negation, equivalence}
 use Rattle.syntax.specs.Nodes.{Implies, Entry, Named, withEntry, withFormula, connected}
 use Rattle.syntax.specs.Refusal.{mostNames}
 use Rattle.syntax.specs.Parts.{entryOf, held, room, Sound}
-use Rattle.syntax.specs.Table.{Holds, Names, Makes, withPart, withCompound, withNegation}
+use Rattle.syntax.specs.Table.{Holds, Names, Makes, withPart, withNegation}
 use Rattle.syntax.specs.Descent.{rest, leafOf, PastSpaces, NextToken, Stands, height, Exceeds, by-rows, Asks, Gives, LeafRead}
 use Rattle.syntax.specs.declared.Part.{Part}
 use Rattle.syntax.specs.declared.Part.the-variants.{Letter, Falsum}
@@ -141,10 +141,11 @@ module _ (s : List ℕ) (at : ℕ) (p : Parts) (d : ℕ) where
           named : (g : Formula) → Holds (withFormula (held p) g) q → q .fits ≡ true → Names (withFormula (held p) (connected Implies g Formula.falsum)) (q .next) r
           named g x had = unfold withFormula withNegation connected in rw (x .table, x .root) at (m .named had)
 
-          exceeds : (g : Formula) (z : List Class) → Stands negation (rest s (t .next)) g z → r .fits ≡ false → (b : Bool) → q .fits ≡ b → Exceeds (held p) d (connected Implies g Formula.falsum)
+          exceeds : (g : Formula) (z : List Class) → Stands negation (rest s (t .next)) g z → r .fits ≡ false → (b : Bool) → q .fits ≡ b
+              → Exceeds (held p) d (connected Implies g Formula.falsum)
           exceeds g z x u true had = by-rows (named g (y .read g z x had .1) had .full u)
           exceeds g z x u false had =
-              left-exceeds (connected Implies) (withCompound Implies) (connected-joins Implies) (held p) (asked .ordered) (asked .once) d g Formula.falsum (d + 1) (omega arith) (y .large g z x had)
+              left-exceeds (connected-joins Implies) (held p) (asked .ordered) (asked .once) d g Formula.falsum (d + 1) (omega arith) (y .large g z x had)
 
     -- A formula in parentheses.
     module _ (i : t .class ≡ 8) where

@@ -4,7 +4,7 @@ use mathlib.Core.Bool.{true}
 use mathlib.Core.Path.{_≡_, subst}
 use Rattle.syntax.specs.Refusal.{BadLength, TooDeep, line-1}
 use Rattle.syntax.specs.Scan.{ends, Scanned, scanned}
-use Rattle.syntax.proofs.Judgement.{answer-refused, length-right, refused-deep, depth-right, refused-fault, refused-large, parts-once, refused-many, accepted, start-asks}
+use Rattle.syntax.proofs.Judgement.{answer-refused, length-right, refused-deep, depth-right, refused-fault, start-asks, Descended, refused-large, parts-once, refused-many, accepted}
 use borrow.Author.Needs.{needs}
 use borrow.Author.Tests.{not-true, not-false}
 use Rattle.syntax.proofs.read.Statement.{statement}
@@ -40,41 +40,33 @@ returns-4 c =
 equivalence-requires : tie.Need-equivalence-requires
 equivalence-requires c κs = start-asks _ (fits (c .before)) _ (c .empty .ensures)
 
-returns-5 : tie.Need-returns-5
-returns-5 c =
-    let read = c .before .before .before in
-    let told = read .before .before in
+descended : (c : tie.After-equivalence)
+    → Descended (c .before .before .before .before .before .before .before .before .before .before .args .text .now) (c .before .empty .result) (c .equivalence .result)
+descended c =
+    let told = c .before .before in
     let d = told .before .before .before in
-    let large = refused-large _ (length-is (d .before .before)) (depth-is d) (fits told) _ (read .before .empty .ensures) _ (read .equivalence .ensures) (not-true _ (c .before .if4 .taken)) in
-    answer-refused _ _ _ _ large (c .refused5 .ensures)
+    record { length-right = length-is (d .before .before); depth-right = depth-is d; fits = fits told; empty = c .before .empty .ensures; gives = c .equivalence .ensures }
+
+returns-5 : tie.Need-returns-5
+returns-5 c = answer-refused _ _ _ _ (refused-large _ _ _ (descended (c .before .before .before)) (not-true _ (c .before .if4 .taken))) (c .refused5 .ensures)
 
 names-requires : tie.Need-names-requires
 names-requires c κs =
-    let read = c .before .before .before in
-    let told = read .before .before in
-    let d = told .before .before .before in
-    (read .equivalence .ensures .sound, parts-once _ (length-is (d .before .before)) (depth-is d) (fits told) _ (read .before .empty .ensures) _ (read .equivalence .ensures) (not-false _ (c .before .if4 .left)))
+    let d = descended (c .before .before .before) in
+    (d .gives .sound, parts-once _ _ _ d (not-false _ (c .before .if4 .left)))
 
 returns-6 : tie.Need-returns-6
 returns-6 c =
     let named = c .before .before in
     let test = named .before .before in
-    let read = test .before .before in
-    let told = read .before .before in
-    let d = told .before .before .before in
-    let many = refused-many _ (length-is (d .before .before)) (depth-is d) (fits told) _ (read .before .empty .ensures) _ (read .equivalence .ensures) (not-false _ (test .if4 .left))
-    _ (named .names .ensures) (c .before .if5 .taken) in
+    let many = refused-many _ _ _ (descended (test .before .before)) (not-false _ (test .if4 .left)) _ (named .names .ensures) (c .before .if5 .taken) in
     answer-refused _ _ _ _ many (c .refused6 .ensures)
 
 returns-7 : tie.Need-returns-7
 returns-7 c =
     let named = c .before in
     let test = named .before .before in
-    let read = test .before .before in
-    let told = read .before .before in
-    let d = told .before .before .before in
-    accepted _ (length-is (d .before .before)) (depth-is d) (fits told) _ (read .before .empty .ensures) _ (read .equivalence .ensures) (not-false _ (test .if4 .left))
-    _ (named .names .ensures) (c .if5 .left)
+    accepted _ _ _ (descended (test .before .before)) (not-false _ (test .if4 .left)) _ (named .names .ensures) (c .if5 .left)
 
 pub read-spec : {M : Type 1} → statement M
 read-spec =
