@@ -33,7 +33,7 @@ pub struct Node {
     pub part: Part,
 }
 
-// The first `count` nodes: inner parts before outer ones, left before right.
+// The first `count` nodes: inner parts before outer ones, left before right, equal ones once.
 pub struct Parts {
     pub nodes: [Node; PARTS],
     pub count: u8,

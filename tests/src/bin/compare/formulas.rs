@@ -1,4 +1,5 @@
-//! Random formulas of all sizes, and long ones that repeat their parts: both implementations, the sequent prover, and forcing in the worlds shown.
+//! Random formulas of all sizes, and long ones that repeat their parts: both implementations, the sequent prover, and forcing in the
+//! worlds shown.
 
 use crate::both::{self, fail, word};
 use crate::Counts;
