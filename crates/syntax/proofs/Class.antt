@@ -16,6 +16,10 @@ use Rattle.syntax.specs.Class.{classOf, tokens, after}
 use Rattle.syntax.specs.Code.{codeOf, decode, joins, isLetter, isLeaf}
 use Rattle.syntax.specs.Descent.{rest}
 
+-- The test of a letter.
+in-range : (b : ℕ) → leb 97 b && leb b 122 ≡ true → (97 ≤ b) × (b ≤ 122)
+in-range b e = (leb→le 97 b (T-left (leb 97 b) (leb b 122) (true-T e)), leb→le b 122 (T-right (leb 97 b) (leb b 122) (true-T e)))
+
 -- What holds of each class, given its bytes or its number, holds of the class of every byte and of every number.
 module _ (P : Class → Type 0) (n : ℕ) where
   number-or : (m : ℕ) (c d : Class) → (n ≡ m → P c) → ((n ≡ m → ⊥) → P d) → P (cond (eqb n m) c d)
@@ -29,13 +33,7 @@ module _ (P : Class → Type 0) (n : ℕ) where
   by-byte not and or implies equal falsum opens shuts space l p =
       number-or 126 _ _ not (λ _. number-or 38 _ _ and (λ _. number-or 124 _ _ or (λ _. number-or 62 _ _ implies (λ _.
       number-or 61 _ _ equal (λ _. number-or 48 _ _ falsum (λ _. number-or 40 _ _ opens (λ _. number-or 41 _ _ shuts (λ _.
-      number-or 32 _ _ space (λ _. by-cond P (leb 97 n && leb n 122) _ _ (λ e. l (first e) (second e)) (λ e. p))))))))))
-    where
-      first : leb 97 n && leb n 122 ≡ true → 97 ≤ n
-      first e = leb→le 97 n (T-left (leb 97 n) (leb n 122) (true-T e))
-
-      second : leb 97 n && leb n 122 ≡ true → n ≤ 122
-      second e = leb→le n 122 (T-right (leb 97 n) (leb n 122) (true-T e))
+      number-or 32 _ _ space (λ _. by-cond P (leb 97 n && leb n 122) _ _ (λ e. l (in-range n e .0) (in-range n e .1)) (λ e. p))))))))))
 
   next-number : (m : ℕ) (c d : Class) → m ≤ n → (n ≡ m → P c) → (m + 1 ≤ n → P d) → P (cond (eqb n m) c d)
   next-number m c d h f g = number-or m c d f (λ e. g (omega arith))
@@ -139,6 +137,36 @@ blank-byte b e = byte-is b 6 e (omega arith)
 
 pub opening-byte : (b : ℕ) → codeOf (classOf b) ≡ 8 → b ≡ 40
 opening-byte b e = byte-is b 8 e (omega arith)
+
+-- The number of a byte that is no sign: a letter's, or that of the foreign ones.
+abbrev NoSign : ℕ → Type 0
+NoSign b =
+    (b ≡ 126 → ⊥) × (b ≡ 38 → ⊥) × (b ≡ 124 → ⊥) × (b ≡ 62 → ⊥) × (b ≡ 61 → ⊥) × (b ≡ 48 → ⊥) × (b ≡ 40 → ⊥) × (b ≡ 41 → ⊥) × (b ≡ 32 → ⊥)
+
+module _ (b : ℕ) (none : NoSign b) where
+  letter-or-foreign : classOf b ≡ cond (leb 97 b && leb b 122) (lowercase (b - 97)) foreign
+  unfolding classOf
+  letter-or-foreign =
+      let (not, and, or, implies, equal, falsum, opens, shuts, space) = none in
+      rw (
+        ne-eqb b 126 not,
+        ne-eqb b 38 and,
+        ne-eqb b 124 or,
+        ne-eqb b 62 implies,
+        ne-eqb b 61 equal,
+        ne-eqb b 48 falsum,
+        ne-eqb b 40 opens,
+        ne-eqb b 41 shuts,
+        ne-eqb b 32 space,
+      )
+
+  pub letter-byte : 97 ≤ b → b ≤ 122 → 10 + (b - 97) ≡ codeOf (classOf b)
+  unfolding codeOf
+  letter-byte low high = rw (letter-or-foreign, le-leb 97 b low, le-leb b 122 high)
+
+  pub foreign-byte : ((97 ≤ b) × (b ≤ 122) → ⊥) → 0 ≡ codeOf (classOf b)
+  unfolding codeOf
+  foreign-byte no-letter = rw letter-or-foreign (by-cond (λ c. 0 ≡ codeOf c) (leb 97 b && leb b 122) _ _ (λ e. absurd (no-letter (in-range b e))) (λ _. refl))
 
 -- The tokens from a position on.
 module _ (s : List ℕ) (i : ℕ) where

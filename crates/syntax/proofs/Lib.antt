@@ -1,5 +1,4 @@
 -- Laws of the definitions, and the theorems.
-pub mod Entries
 pub mod Class
 pub mod Position
 pub mod Depth

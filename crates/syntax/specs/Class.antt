@@ -1,4 +1,4 @@
--- The class of each byte (document 01: "A constant table of 256 entries gives each byte's class").
+-- The class of each byte (document 02, change 5: "the class of a byte is worked out by comparing").
 use mathlib.Core.Bool.{cond, _&&_}
 use mathlib.Core.List.{List, [], _∷_}
 use Prim.Native.Nat.{ℕ, _-_}

@@ -1,5 +1,4 @@
 // The class of a byte, and the next token of a text.
-use super::classes;
 ghost use mathlib.Core.Path.{_≡_};
 ghost use Prim.Native.Nat.{_≤_};
 ghost use lib.ListN.{length};
@@ -30,10 +29,40 @@ pub const FALSUM: u8 = 9;
 // The letter a; the others follow.
 pub const LETTER: u8 = 10;
 
+// By comparing, one stretch of bytes after the other: of more cases in one match the compiler would make a table again.
 pub fn class_of(b: u8) -> u8
     ensures { λ r. ⌜ r ≡ codeOf (classOf b) ⌝ }
 {
-    classes::CLASS[b as usize]
+    if b < b'(' {
+        return match b {
+            b' ' => BLANK,
+            b'&' => AND,
+            _ => FOREIGN,
+        };
+    }
+    if b < b'0' {
+        return match b {
+            b'(' => OPENING,
+            b')' => CLOSING,
+            _ => FOREIGN,
+        };
+    }
+    if b < b'a' {
+        return match b {
+            b'0' => FALSUM,
+            b'=' => EQUALS,
+            b'>' => IMPLIES,
+            _ => FOREIGN,
+        };
+    }
+    if b <= b'z' {
+        return LETTER + (b - b'a');
+    }
+    match b {
+        b'|' => OR,
+        b'~' => NOT,
+        _ => FOREIGN,
+    }
 }
 
 // `&`, `|`, `>` or `=`: it stands between two operands.

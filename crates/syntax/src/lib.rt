@@ -2,7 +2,6 @@
 ghost use Rattle.syntax.specs.Answer.{Answers, Refuses};
 
 mod bytes;
-mod classes;
 mod descent;
 mod parentheses;
 mod scan;
@@ -22,10 +21,10 @@ pub enum Connective {
     Implies,
 }
 
-// The parts of a compound are earlier nodes, by index.
+// The parts of a compound are earlier nodes, by index. ⊥ stands first: a table of it is zeros, for which no constant data is needed.
 pub enum Part {
-    Letter(u8),
     Falsum,
+    Letter(u8),
     Compound(Connective, u8, u8),
 }
 

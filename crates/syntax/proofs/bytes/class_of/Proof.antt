@@ -1,41 +1,33 @@
--- The table's rule, by one computed test over its 256 entries.
+-- By the tests on the way, one stretch of bytes after the other; the number of a sign is computed.
 use borrow.Author.Needs.{needs}
-use mathlib.Core.Bool.{Bool}
-use mathlib.Core.List.{List, [], _∷_}
-use mathlib.Core.Path.{_≡_}
-use Prim.Native.Nat.{ℕ, _<_}
-use lib.Dec.{eqb, eqb→eq}
-use lib.ListN.{getD}
+use native.Mathlib.Omega.{arith}
 use Rattle.syntax.specs.Class.{classOf}
 use Rattle.syntax.specs.Code.{codeOf}
-use Rattle.syntax.proofs.Entries.{at}
+use Rattle.syntax.proofs.Class.{letter-byte, foreign-byte}
 use Rattle.syntax.proofs.bytes.class_of.Statement.{statement}
 use Rattle.syntax.proofs.bytes.class_of.Tie as tie
 
-right : ℕ → ℕ → Bool
-right b x = eqb x (codeOf (classOf b))
+returns-3 : tie.Need-returns-3
+returns-3 c = foreign-byte _ (omega arith) (omega arith)
 
-table : List ℕ
-table =
-    0 ∷ 0 ∷ 0 ∷ 0 ∷ 0 ∷ 0 ∷ 0 ∷ 0 ∷ 0 ∷ 0 ∷ 0 ∷ 0 ∷ 0 ∷ 0 ∷ 0 ∷ 0 ∷ 0 ∷ 0 ∷ 0 ∷ 0 ∷ 0 ∷ 0 ∷ 0 ∷ 0 ∷
-    0 ∷ 0 ∷ 0 ∷ 0 ∷ 0 ∷ 0 ∷ 0 ∷ 0 ∷ 6 ∷ 0 ∷ 0 ∷ 0 ∷ 0 ∷ 0 ∷ 2 ∷ 0 ∷ 8 ∷ 1 ∷ 0 ∷ 0 ∷ 0 ∷ 0 ∷ 0 ∷ 0 ∷
-    9 ∷ 0 ∷ 0 ∷ 0 ∷ 0 ∷ 0 ∷ 0 ∷ 0 ∷ 0 ∷ 0 ∷ 0 ∷ 0 ∷ 0 ∷ 5 ∷ 4 ∷ 0 ∷ 0 ∷ 0 ∷ 0 ∷ 0 ∷ 0 ∷ 0 ∷ 0 ∷ 0 ∷
-    0 ∷ 0 ∷ 0 ∷ 0 ∷ 0 ∷ 0 ∷ 0 ∷ 0 ∷ 0 ∷ 0 ∷ 0 ∷ 0 ∷ 0 ∷ 0 ∷ 0 ∷ 0 ∷ 0 ∷ 0 ∷ 0 ∷ 0 ∷ 0 ∷ 0 ∷ 0 ∷ 0 ∷
-    0 ∷ 10 ∷ 11 ∷ 12 ∷ 13 ∷ 14 ∷ 15 ∷ 16 ∷ 17 ∷ 18 ∷ 19 ∷ 20 ∷ 21 ∷ 22 ∷ 23 ∷ 24 ∷ 25 ∷ 26 ∷ 27 ∷ 28 ∷ 29 ∷ 30 ∷ 31 ∷ 32 ∷
-    33 ∷ 34 ∷ 35 ∷ 0 ∷ 3 ∷ 0 ∷ 7 ∷ 0 ∷ 0 ∷ 0 ∷ 0 ∷ 0 ∷ 0 ∷ 0 ∷ 0 ∷ 0 ∷ 0 ∷ 0 ∷ 0 ∷ 0 ∷ 0 ∷ 0 ∷ 0 ∷ 0 ∷
-    0 ∷ 0 ∷ 0 ∷ 0 ∷ 0 ∷ 0 ∷ 0 ∷ 0 ∷ 0 ∷ 0 ∷ 0 ∷ 0 ∷ 0 ∷ 0 ∷ 0 ∷ 0 ∷ 0 ∷ 0 ∷ 0 ∷ 0 ∷ 0 ∷ 0 ∷ 0 ∷ 0 ∷
-    0 ∷ 0 ∷ 0 ∷ 0 ∷ 0 ∷ 0 ∷ 0 ∷ 0 ∷ 0 ∷ 0 ∷ 0 ∷ 0 ∷ 0 ∷ 0 ∷ 0 ∷ 0 ∷ 0 ∷ 0 ∷ 0 ∷ 0 ∷ 0 ∷ 0 ∷ 0 ∷ 0 ∷
-    0 ∷ 0 ∷ 0 ∷ 0 ∷ 0 ∷ 0 ∷ 0 ∷ 0 ∷ 0 ∷ 0 ∷ 0 ∷ 0 ∷ 0 ∷ 0 ∷ 0 ∷ 0 ∷ 0 ∷ 0 ∷ 0 ∷ 0 ∷ 0 ∷ 0 ∷ 0 ∷ 0 ∷
-    0 ∷ 0 ∷ 0 ∷ 0 ∷ 0 ∷ 0 ∷ 0 ∷ 0 ∷ 0 ∷ 0 ∷ 0 ∷ 0 ∷ 0 ∷ 0 ∷ 0 ∷ 0 ∷ 0 ∷ 0 ∷ 0 ∷ 0 ∷ 0 ∷ 0 ∷ 0 ∷ 0 ∷
-    0 ∷ 0 ∷ 0 ∷ 0 ∷ 0 ∷ 0 ∷ 0 ∷ 0 ∷ 0 ∷ 0 ∷ 0 ∷ 0 ∷ 0 ∷ 0 ∷ 0 ∷ 0 ∷ []
+returns-6 : tie.Need-returns-6
+returns-6 c = foreign-byte _ (omega arith) (omega arith)
 
-rule : (b : ℕ) → b < 256 → getD table b 0 ≡ codeOf (classOf b)
-unfolding table right classOf codeOf
-rule b h = eqb→eq (getD table b 0) (codeOf (classOf b)) (at right table tt b h)
+returns-10 : tie.Need-returns-10
+returns-10 c = foreign-byte _ (omega arith) (omega arith)
 
-returns : tie.Need-returns
-unfolding table
-returns c = rule (c .args .b) (search needs)
+returns-11 : tie.Need-returns-11
+returns-11 c = letter-byte _ (omega arith) (omega arith) (omega arith)
+
+returns-14 : tie.Need-returns-14
+returns-14 c = foreign-byte _ (omega arith) (omega arith)
 
 pub class-of-spec : {M : Type 1} → statement M
-class-of-spec = tie.close (tie.spec (λ c. search needs) returns)
+unfolding classOf codeOf
+class-of-spec =
+    tie.close (tie.spec
+    (λ c. rw (c .match .keys1)) (λ c. rw (c .match .keys2)) returns-3
+    (λ c. rw (c .match2 .keys1)) (λ c. rw (c .match2 .keys2)) returns-6
+    (λ c. rw (c .match3 .keys1)) (λ c. rw (c .match3 .keys2)) (λ c. rw (c .match3 .keys3)) returns-10
+    (λ c. search needs) returns-11
+    (λ c. rw (c .match4 .keys1)) (λ c. rw (c .match4 .keys2)) returns-14)
