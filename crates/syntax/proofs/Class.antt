@@ -16,9 +16,9 @@ use Rattle.syntax.specs.Class.{classOf, tokens, after}
 use Rattle.syntax.specs.Code.{codeOf, decode, joins, isLetter, isLeaf}
 use Rattle.syntax.specs.Descent.{rest}
 
--- The test of a letter.
-in-range : (b : ℕ) → leb 97 b && leb b 122 ≡ true → (97 ≤ b) × (b ≤ 122)
-in-range b e = (leb→le 97 b (T-left (leb 97 b) (leb b 122) (true-T e)), leb→le b 122 (T-right (leb 97 b) (leb b 122) (true-T e)))
+-- What the test of a letter says.
+letter-bounds : (b : ℕ) → leb 97 b && leb b 122 ≡ true → (97 ≤ b) × (b ≤ 122)
+letter-bounds b e = (leb→le 97 b (T-left (leb 97 b) (leb b 122) (true-T e)), leb→le b 122 (T-right (leb 97 b) (leb b 122) (true-T e)))
 
 -- What holds of each class, given its bytes or its number, holds of the class of every byte and of every number.
 module _ (P : Class → Type 0) (n : ℕ) where
@@ -33,7 +33,7 @@ module _ (P : Class → Type 0) (n : ℕ) where
   by-byte not and or implies equal falsum opens shuts space l p =
       number-or 126 _ _ not (λ _. number-or 38 _ _ and (λ _. number-or 124 _ _ or (λ _. number-or 62 _ _ implies (λ _.
       number-or 61 _ _ equal (λ _. number-or 48 _ _ falsum (λ _. number-or 40 _ _ opens (λ _. number-or 41 _ _ shuts (λ _.
-      number-or 32 _ _ space (λ _. by-cond P (leb 97 n && leb n 122) _ _ (λ e. l (in-range n e .0) (in-range n e .1)) (λ e. p))))))))))
+      number-or 32 _ _ space (λ _. by-cond P (leb 97 n && leb n 122) _ _ (λ e. l (letter-bounds n e .0) (letter-bounds n e .1)) (λ e. p))))))))))
 
   next-number : (m : ℕ) (c d : Class) → m ≤ n → (n ≡ m → P c) → (m + 1 ≤ n → P d) → P (cond (eqb n m) c d)
   next-number m c d h f g = number-or m c d f (λ e. g (omega arith))
@@ -166,7 +166,7 @@ module _ (b : ℕ) (none : NoSign b) where
 
   pub foreign-byte : ((97 ≤ b) × (b ≤ 122) → ⊥) → 0 ≡ codeOf (classOf b)
   unfolding codeOf
-  foreign-byte no-letter = rw letter-or-foreign (by-cond (λ c. 0 ≡ codeOf c) (leb 97 b && leb b 122) _ _ (λ e. absurd (no-letter (in-range b e))) (λ _. refl))
+  foreign-byte no-letter = rw letter-or-foreign (by-cond (λ c. 0 ≡ codeOf c) (leb 97 b && leb b 122) _ _ (λ e. absurd (no-letter (letter-bounds b e))) (λ _. refl))
 
 -- The tokens from a position on.
 module _ (s : List ℕ) (i : ℕ) where
