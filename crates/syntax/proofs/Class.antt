@@ -138,7 +138,7 @@ blank-byte b e = byte-is b 6 e (omega arith)
 pub opening-byte : (b : ℕ) → codeOf (classOf b) ≡ 8 → b ≡ 40
 opening-byte b e = byte-is b 8 e (omega arith)
 
--- The number of a byte that is no sign: a letter's, or that of the foreign ones.
+-- A byte that is no sign: its class is a letter's or the foreign one.
 abbrev NoSign : ℕ → Type 0
 NoSign b =
     (b ≡ 126 → ⊥) × (b ≡ 38 → ⊥) × (b ≡ 124 → ⊥) × (b ≡ 62 → ⊥) × (b ≡ 61 → ⊥) × (b ≡ 48 → ⊥) × (b ≡ 40 → ⊥) × (b ≡ 41 → ⊥) × (b ≡ 32 → ⊥)
