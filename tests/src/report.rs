@@ -32,17 +32,17 @@ pub fn report(outcome: &Result<Settled, Refusal>) -> String {
 pub fn verdict_lines(atoms: u8, answer: &Answer) -> String {
     let figures = format!("atoms {atoms} questions {} learned {}\n", answer.questions, answer.steps.len());
     let step = |s: &Step| format!("step {} {}\n", s.implication, s.assumed);
-    let world = |w: &u64| format!("world {w}\n");
     match &answer.verdict {
         Verdict::Valid => {
             let steps: String = answer.steps.iter().map(step).collect();
             "valid\n".to_string() + &figures + &steps
         }
-        Verdict::Refuted(worlds) => {
-            let worlds: String = worlds.iter().map(world).collect();
-            "refuted\n".to_string() + &figures + &worlds
-        }
+        Verdict::Refuted(worlds) => "refuted\n".to_string() + &figures + &world_lines(worlds),
     }
+}
+
+pub fn world_lines(worlds: &[u64]) -> String {
+    worlds.iter().map(|world| format!("world {world}\n")).collect()
 }
 
 /// The certificate of a verdict, or the line of a refusal.

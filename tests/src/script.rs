@@ -3,8 +3,8 @@
 use crate::certificate::verdict_line;
 use crate::naming::{Flat, Implication};
 use crate::refusal::Refusal;
-use crate::report::verdict_lines;
-use crate::session::Session;
+use crate::report::{verdict_lines, world_lines};
+use crate::session::{GoalAnswer, Session};
 
 pub const MOST_LINE_BYTES: usize = 32_768;
 
@@ -31,6 +31,7 @@ enum Call<'a> {
     Flat(Flat),
     Implication(Implication),
     Ask(u8),
+    Page(Vec<u8>),
     Mark(u8),
     Return(u8),
     Length,
@@ -71,6 +72,7 @@ impl Dialogue {
             Call::Flat(flat) => session.add_flat(flat).map(done),
             Call::Implication(implication) => session.add_implication(implication).map(done),
             Call::Ask(goal) => session.ask(goal).map(|answer| verdict_lines(session.atoms(), &answer)),
+            Call::Page(goals) => session.page(&goals).map(|answers| page_lines(&answers)),
             Call::Mark(number) => session.set_mark(number).map(done),
             Call::Return(number) => session.return_to(number).map(done),
             Call::Length => session.length_told().map(|length| format!("length {length}\n")),
@@ -99,6 +101,7 @@ fn read(line: &[u8]) -> Option<Call<'_>> {
         [b"flat", left, right] => Call::Flat(Flat { left: number(left)?, right: number(right)? }),
         [b"implication", a, b, c] => Call::Implication(Implication { a: byte(a)?, b: byte(b)?, c: byte(c)? }),
         [b"ask", goal] => Call::Ask(byte(goal)?),
+        [b"page", ref goals @ ..] => Call::Page(goals.iter().map(|goal| byte(goal)).collect::<Option<_>>()?),
         [b"mark", number] => Call::Mark(byte(number)?),
         [b"return", number] => Call::Return(byte(number)?),
         [b"length"] => Call::Length,
@@ -108,6 +111,19 @@ fn read(line: &[u8]) -> Option<Call<'_>> {
         _ => return None,
     };
     Some(call)
+}
+
+fn page_lines(answers: &[GoalAnswer]) -> String {
+    answers.iter().enumerate().map(|(place, answer)| format!("goal {place} {}", goal_lines(answer))).collect()
+}
+
+fn goal_lines(answer: &GoalAnswer) -> String {
+    match answer {
+        GoalAnswer::Valid(steps) => format!("valid {steps}\n"),
+        GoalAnswer::Refuted(worlds) => format!("refuted {}\n{}", worlds.len(), world_lines(worlds)),
+        GoalAnswer::RefutedBy(place) => format!("refuted by {place}\n"),
+        GoalAnswer::Refused(refusal) => format!("{refusal}\n"),
+    }
 }
 
 /// All behind the word `text` and one space.
@@ -209,6 +225,58 @@ mod tests {
             assert_eq!(of_length(3 * MOST_LINE_BYTES, start, filler, ""), "");
         }
         assert_eq!(of_length(3 * MOST_LINE_BYTES, "", " ", "#"), "line 1 is no call\n");
+    }
+
+    #[test]
+    fn goals_of_a_page() {
+        let no_call = "line 1 is no call\n";
+        let refuted = "goal 0 refuted 1\nworld 0\n";
+        let cases = [
+            ("page", ""),
+            ("page ", ""),
+            ("   page   ", ""),
+            ("page 0", refuted),
+            ("   page   000   ", refuted),
+            ("page 255", refuted),
+            ("page 1", "refused 6\n"),
+            ("page 0 254", "refused 6\n"),
+            ("page 256", no_call),
+            ("page x", no_call),
+            ("page 0 x", no_call),
+            ("page 1 256", no_call),
+            ("page 0,0", no_call),
+            ("page -1", no_call),
+            ("page0", no_call),
+            ("pages 0", no_call),
+            ("Page 0", no_call),
+            ("page\t0", no_call),
+        ];
+        for (line, wanted) in cases {
+            assert_eq!(answers(line.as_bytes()), wanted, "{line}");
+        }
+    }
+
+    #[test]
+    fn long_pages() {
+        let of_goals = |count: usize, end: &str| answers(("page".to_string() + &" 0".repeat(count) + end).as_bytes());
+        let by_first: String = (1..64).map(|place| format!("goal {place} refuted by 0\n")).collect();
+        assert_eq!(of_goals(64, ""), "goal 0 refuted 1\nworld 0\n".to_string() + &by_first);
+        assert_eq!(of_goals(63, " 1"), "refused 6\n");
+        assert_eq!(of_goals(64, " 256"), "line 1 is no call\n");
+        assert_eq!(of_goals(64, " 1"), "refused 19\n");
+        let most_goals = (MOST_LINE_BYTES - "page".len()) / " 0".len();
+        for count in [65, 256, 320, most_goals] {
+            assert_eq!(of_goals(count, ""), "refused 19\n", "{count}");
+        }
+        assert_eq!(of_goals(most_goals, " "), "line 1 is no call\n");
+    }
+
+    #[test]
+    fn answers_to_a_page() {
+        let opened = "open 3\nflat 1 2\nimplication 0 1 2\n";
+        let page = "goal 0 valid 1\ngoal 1 refuted 1\nworld 4\ngoal 2 valid 1\ngoal 3 refuted by 1\n";
+        let script = opened.to_string() + "page 2 0 2 255\n";
+        assert_eq!(answers(script.as_bytes()), "done\n".repeat(3) + page);
     }
 
     #[test]

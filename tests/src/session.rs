@@ -1,13 +1,14 @@
-//! The session of document 01, with the marks of document 02: clauses held, questions answered by the fixed search, steps and the
-//! last verdict kept.
+//! The session of document 01, with the marks and the pages of document 02: clauses held, questions answered by the fixed search,
+//! steps and the last verdict kept.
 
 use crate::certificate;
-use crate::naming::{problem_of, Flat, Implication, Problem, FALSE, MOST_FLATS, MOST_IMPLICATIONS};
+use crate::naming::{problem_of, single, Flat, Implication, Problem, FALSE, MOST_FLATS, MOST_IMPLICATIONS};
 use crate::reader::read;
 use crate::refusal::Refusal;
 use crate::search::{settle_after, Answer, Step, Verdict};
 
 const MOST_MARK: u8 = 7;
+const MOST_GOALS: usize = 64;
 
 pub struct Session {
     /// The clauses held; the goal is that of the last verdict, at first that of the text.
@@ -25,6 +26,18 @@ struct Mark {
     flats: Vec<Flat>,
     implications: Vec<Implication>,
     steps: Vec<Step>,
+}
+
+/// What is answered to one goal of a page.
+#[derive(Clone, Debug, PartialEq, Eq)]
+pub enum GoalAnswer {
+    /// With so many steps then held.
+    Valid(usize),
+    /// By its own search, with these worlds.
+    Refuted(Vec<u64>),
+    /// By the model that the goal at this place found.
+    RefutedBy(usize),
+    Refused(Refusal),
 }
 
 impl Session {
@@ -90,6 +103,26 @@ impl Session {
         self.answer()
     }
 
+    /// The goals in order, each as if asked alone, unless a model found on this page refutes it.
+    pub fn page(&mut self, goals: &[u8]) -> Result<Vec<GoalAnswer>, Refusal> {
+        refuse(19, goals.len() > MOST_GOALS)?;
+        refuse(6, !goals.iter().all(|&goal| self.problem.has_atom_or_false(goal)))?;
+        let mut answers = Vec::new();
+        for &goal in goals {
+            let found = earliest_lacking(goal, &answers);
+            answers.push(found.map_or_else(|| self.searched(goal), GoalAnswer::RefutedBy));
+        }
+        Ok(answers)
+    }
+
+    fn searched(&mut self, goal: u8) -> GoalAnswer {
+        match self.ask(goal) {
+            Err(refusal) => GoalAnswer::Refused(refusal),
+            Ok(Answer { verdict: Verdict::Valid, steps, .. }) => GoalAnswer::Valid(steps.len()),
+            Ok(Answer { verdict: Verdict::Refuted(worlds), .. }) => GoalAnswer::Refuted(worlds),
+        }
+    }
+
     pub fn set_mark(&mut self, number: u8) -> Result<(), Refusal> {
         refuse(17, number > MOST_MARK)?;
         self.marks.retain(|mark| mark.number != number);
@@ -131,6 +164,12 @@ impl Session {
     }
 }
 
+/// The place of the first answer with a model whose root lacks the goal.
+fn earliest_lacking(goal: u8, answers: &[GoalAnswer]) -> Option<usize> {
+    let lacks = |answer: &GoalAnswer| matches!(answer, GoalAnswer::Refuted(worlds) if worlds[0] & single(goal) == 0);
+    answers.iter().position(lacks)
+}
+
 fn refuse(number: u8, holds: bool) -> Result<(), Refusal> {
     if holds {
         return Err(Refusal::plain(number));
@@ -142,6 +181,7 @@ fn refuse(number: u8, holds: bool) -> Result<(), Refusal> {
 mod tests {
     use super::*;
     use crate::certificate::verdict_line;
+    use crate::corpus::entries;
 
     const SAME: Flat = Flat { left: 1, right: 1 };
     const NOT_FALSE: Implication = Implication { a: 0, b: FALSE, c: FALSE };
@@ -219,18 +259,137 @@ mod tests {
         assert_eq!((again.questions, again.steps), (2 * first.questions, first.steps));
     }
 
-    #[test]
-    fn a_question_that_needs_too_many_worlds_changes_nothing() {
+    /// Ten atoms, and the double negations of nine.
+    fn with_double_negations() -> Session {
         let mut session = Session::open(10).expect("ten atoms");
         for a in 0..9 {
             session.add_implication(Implication { a, ..NOT_FALSE }).expect("an implication");
         }
+        session
+    }
+
+    /// Atom 0 or 9: where 0 holds, the other eight have 256 worlds.
+    const ZERO_OR_NINE: Flat = Flat { left: 0, right: 1 << 0 | 1 << 9 };
+
+    #[test]
+    fn a_question_that_needs_too_many_worlds_changes_nothing() {
+        let mut session = with_double_negations();
         assert_eq!(refusal(session.ask(FALSE)), 11);
         assert_eq!((session.questions, refusal(session.sheet())), (0, 9));
-        session.add_flat(Flat { left: 0, right: 1 << 0 | 1 << 9 }).expect("a clause");
+        session.add_flat(ZERO_OR_NINE).expect("a clause");
         let answer = session.ask(9).expect("256 worlds that have atom 0");
         let sheet = session.sheet();
         assert_eq!(refusal(session.ask(0)), 11);
         assert_eq!((session.questions, session.sheet()), (answer.questions, sheet));
+    }
+
+    /// Three atoms, of which 0 or 1 holds.
+    fn with_a_choice() -> Session {
+        let mut session = Session::open(3).expect("three atoms");
+        session.add_flat(Flat { left: 0, right: 3 }).expect("a clause");
+        session
+    }
+
+    /// All that a page may change.
+    fn held(session: &Session) -> (u32, Vec<Step>, Result<Vec<u8>, Refusal>) {
+        (session.questions, session.steps.clone(), session.sheet())
+    }
+
+    #[test]
+    fn refusals_of_a_page_in_order() {
+        let mut session = with_a_choice();
+        session.ask(0).expect("a verdict");
+        let before = held(&session);
+        let [mut last_wrong, mut first_wrong] = [[1; MOST_GOALS]; 2];
+        (last_wrong[MOST_GOALS - 1], first_wrong[0]) = (3, 254);
+        let refused: [(&[u8], u8); 6] =
+            [(&[3], 6), (&[1, 3, 1], 6), (&last_wrong, 6), (&first_wrong, 6), (&[1; 65], 19), (&[3; 65], 19)];
+        for (goals, wanted) in refused {
+            assert_eq!(refusal(session.page(goals)), wanted, "{goals:?}");
+            assert_eq!(held(&session), before, "{goals:?}");
+        }
+        assert_eq!(session.page(&[1; MOST_GOALS]).expect("a page").len(), MOST_GOALS);
+    }
+
+    #[test]
+    fn an_empty_page_changes_nothing() {
+        let mut session = with_a_choice();
+        assert_eq!((session.page(&[]), refusal(session.sheet())), (Ok(Vec::new()), 9));
+        session.ask(0).expect("a verdict");
+        let before = held(&session);
+        assert_eq!((session.page(&[]), held(&session)), (Ok(Vec::new()), before));
+    }
+
+    #[test]
+    fn the_earliest_model_refutes() {
+        let mut session = with_a_choice();
+        let answers = session.page(&[0, 1, 2, 1, 0, FALSE]).expect("a page");
+        let own = [2, 1].map(|root| GoalAnswer::Refuted(vec![root]));
+        assert_eq!((&answers[..2], &answers[2..]), (&own[..], &[0, 1, 0, 0].map(GoalAnswer::RefutedBy)[..]));
+        let mut asked = with_a_choice();
+        asked.ask(0).expect("a verdict");
+        asked.ask(1).expect("a verdict");
+        assert_eq!(held(&session), held(&asked));
+    }
+
+    #[test]
+    fn models_of_earlier_calls_refute_nothing() {
+        let mut session = with_a_choice();
+        let own = Ok(vec![GoalAnswer::Refuted(vec![1])]);
+        assert_eq!(session.ask(0).expect("a verdict").verdict, Verdict::Refuted(vec![2]));
+        assert_eq!(session.page(&[2]), own);
+        assert_eq!(session.page(&[0]), Ok(vec![GoalAnswer::Refuted(vec![2])]));
+        assert_eq!((session.page(&[2]), session.questions), (own, 4));
+    }
+
+    #[test]
+    fn false_lacks_at_every_root() {
+        let mut session = with_a_choice();
+        assert_eq!(session.page(&[FALSE, FALSE]), Ok(vec![GoalAnswer::Refuted(vec![1]), GoalAnswer::RefutedBy(0)]));
+        session.add_flat(Flat { left: 0, right: 0 }).expect("a clause");
+        assert_eq!(session.page(&[FALSE, FALSE]), Ok(vec![GoalAnswer::Valid(0); 2]));
+    }
+
+    #[test]
+    fn the_last_verdict_searched_for_is_held() {
+        let (mut session, goal) = Session::of_text(b"p>p").expect("p>p");
+        let answers = session.page(&[0, goal, FALSE, 0]).expect("a page");
+        let [by_first, valid] = [GoalAnswer::RefutedBy(0), GoalAnswer::Valid(1)];
+        assert_eq!(answers, [GoalAnswer::Refuted(vec![2]), valid, by_first.clone(), by_first]);
+        let sheet = session.sheet().expect("a sheet");
+        assert_eq!((session.problem.goal, verdict_line(&sheet)), (goal, "accepted valid\n".into()));
+    }
+
+    #[test]
+    fn a_goal_that_needs_too_many_worlds_changes_nothing() {
+        let [mut session, mut asked] = [with_double_negations(), with_double_negations()];
+        session.add_flat(ZERO_OR_NINE).expect("a clause");
+        asked.add_flat(ZERO_OR_NINE).expect("a clause");
+        let refused = GoalAnswer::Refused(Refusal::plain(11));
+        assert_eq!((session.page(&[0]), refusal(session.sheet())), (Ok(vec![refused.clone()]), 9));
+        let Verdict::Refuted(worlds) = asked.ask(9).expect("256 worlds").verdict else { panic!("9 is valid") };
+        let wanted = [refused.clone(), GoalAnswer::Refuted(worlds), refused.clone(), GoalAnswer::RefutedBy(1)];
+        assert_eq!(session.page(&[0, 9, 0, FALSE]).expect("a page"), wanted);
+        assert_eq!(held(&session), held(&asked));
+        assert_eq!((session.page(&[0, 0]), held(&session)), (Ok(vec![refused; 2]), held(&asked)));
+    }
+
+    /// Each verdict is that of the goal alone, and what is searched for is answered as if asked in order.
+    #[test]
+    fn pages_of_all_atoms() {
+        let fresh = |text: &str| Session::of_text(text.as_bytes()).expect("a formula").0;
+        let is_valid = |answer: &GoalAnswer| matches!(answer, GoalAnswer::Valid(_));
+        for text in entries().map(|entry| entry.text).filter(|text| fresh(text).atoms() <= 20) {
+            let [mut session, mut asked] = [fresh(text), fresh(text)];
+            let goals: Vec<u8> = (0..session.atoms()).chain([FALSE]).collect();
+            let answers = session.page(&goals).expect("a page");
+            for (&goal, answer) in goals.iter().zip(&answers) {
+                assert_eq!(is_valid(answer), is_valid(&fresh(text).searched(goal)), "{goal} of {text}");
+                if !matches!(answer, GoalAnswer::RefutedBy(_)) {
+                    assert_eq!(*answer, asked.searched(goal), "{goal} of {text}");
+                }
+            }
+            assert_eq!(held(&session), held(&asked), "{text}");
+        }
     }
 }

@@ -16,7 +16,8 @@ use Rattle.prover.specs.Demand as made
 use Rattle.prover.specs.declared.Session.{Session}
 use Rattle.prover.specs.declared.Changed.{Changed}
 use Rattle.prover.specs.declared.Answered.{Answered}
-use Rattle.prover.proofs.DemandThree.{ByBook, Kept, nothing-in-range, change-answer, dropped-kept, asked-as, call-kept}
+use Rattle.prover.proofs.Keeping.{ByBook, Kept, nothing-in-range, change-answer, dropped-kept, asked-as}
+use Rattle.prover.proofs.DemandThree.{call-kept}
 use Rattle.bench.specs.Calls.{Act, opening, adding, asking, actAt, numberMet, bookAfter, oneIfRefused, refusalsFrom, refusals, numberTold, Called}
 
 -- A session in range that holds the reached book k.

@@ -11,19 +11,24 @@ use lib.Dec.{eqb}
 use lib.ListN.{take}
 use borrow.Author.Tests.{eq-eqb, ne-eqb}
 use Rattle.ipl.specs.Search.{Outcome, valid, refuted, refused, unfinished}
+use Rattle.ipl.specs.Page.{Entry, searched, refutedBy}
 use Rattle.ipl.specs.Book as B
-use Rattle.ipl.specs.Book.{Book, Call, opened, answer, additionRefusal, refusal, taken, stepsAfter}
+use Rattle.ipl.specs.Book.{Book, Call, opened, answer, additionRefusal, refusal, entries, taken, stepsAfter}
 use Rattle.ipl.proofs.Book.{Reached, opened-reached, next-reached}
 use Rattle.prover.specs.State.{worldsOf, book}
 use Rattle.prover.specs.InRange.{inRange}
 use Rattle.prover.specs.Calls.{number, NothingHeld, VerdictKept, AskedAs}
-use Rattle.prover.specs.Demand.{Made, addFlat, addImplication, question, setMark, returnTo, callOf, Returned, sessionOf, Meets, Run}
+use Rattle.prover.specs.Page.{goalsOf, PageAnswered}
+use Rattle.prover.specs.Demand.{Made, addFlat, addImplication, question, setMark, returnTo, page, callOf, PageReturned, Returned, sessionOf, Meets, Run}
 use Rattle.prover.specs.declared.Held.{Held}
 use Rattle.prover.specs.declared.Held.the-variants as held
 use Rattle.prover.specs.declared.Session.{Session}
 use Rattle.prover.specs.declared.Changed.{Changed}
 use Rattle.prover.specs.declared.Answered.{Answered}
-use Rattle.prover.proofs.DemandThree.{ByBook, Kept, nothing-in-range, dropped-kept, set-kept, asked-as, call-kept}
+use Rattle.prover.specs.declared.GoalRecord.{GoalRecord}
+use Rattle.prover.proofs.Keeping.{ByBook, Kept, nothing-in-range, dropped-kept, set-kept, asked-as, asked-kept}
+use Rattle.prover.proofs.PageRuns.{EntryRun, EntriesRun, entry-book, page-follows, page-unchanged}
+use Rattle.prover.proofs.DemandThree.{call-kept}
 use Rattle.certificate.specs.Certificate as certificate
 use Rattle.certificate.specs.Judge.{judge}
 use Rattle.certificate.specs.Written.{problemOfBook, claimOfVerdict}
@@ -32,7 +37,7 @@ use Rattle.certificate.proofs.Acceptance.{encode-accepted}
 use Rattle.certificate.proofs.Reached.{reached-right}
 use Rattle.certify.specs.Held.{Certificate, bytesOf, certificateHeld}
 use Rattle.certify.specs.Written.{toldOf, lengthTold, WrittenAs}
-use Rattle.certify.specs.Demand.{withProblem, keeps, lastAnswer, endOf, WrittenFrom, WrittenAfter, DemandTwoWritten}
+use Rattle.certify.specs.Demand.{withProblem, keepsAnswer, keepsEntry, keepsEntries, keeps, lastAnswer, endOf, WrittenFrom, WrittenAfter, DemandTwoWritten}
 use Rattle.certify.proofs.Buffer.{bytes-counted, length-given}
 use Rattle.certify.specs.declared.Length.{Length}
 use Rattle.certify.specs.declared.Length.the-variants.{Bytes, Refused}
@@ -107,7 +112,7 @@ module _ (s : Session) (x : Option Certificate) (h : Standing s x) where
       same false = refl
 
   answered : (g : ℕ) (u : Answered) → Kept s (B.question g) (u .session) → (o : Outcome) → answer (book s) g ≡ o → AskedAs s g o u
-      → Standing (u .session) (orElse (withProblem (book s) g (claimOfVerdict (book s) o)) x)
+      → Standing (u .session) (keepsAnswer (book s) g o x)
   unfolding claimOfVerdict stepsAfter orElse
   answered g u k (valid end) e a =
       after-call (B.question g) (u .session) k (withProblem (book s) g (claimOfVerdict (book s) (valid end)))
@@ -121,14 +126,45 @@ module _ (s : Session) (x : Option Certificate) (h : Standing s x) where
   answered g u k (refused m) e a = subst (λ (v : Session). Standing v x) (sym (a .1)) h
   answered g u k unfinished e a = absurd (a .0)
 
+  -- A goal of a page.
+  entry-stands : (g : ℕ) (e : Entry) (u : Session) → EntryRun s g e u → Standing u (keepsEntry (book s) g e x)
+  entry-stands g (searched o) u (a, asked, is, leaves) =
+      subst (λ (v : Session). Standing v (keepsAnswer (book s) g o x)) (sym leaves)
+      (answered g a (asked-kept s (h .in-range) (h .reached) g a (subst (λ (o : Outcome). AskedAs s g o a) (sym is) asked)) o is asked)
+  entry-stands g (refutedBy j) u leaves = subst (λ (v : Session). Standing v x) (sym leaves) h
+
+-- A page.
+entries-stand : (gs : List ℕ) (es : List Entry) (s t : Session) (x : Option Certificate) → Standing s x → EntriesRun s gs es t → Standing t (keepsEntries (book s) gs es x)
+entries-stand [] [] s t x h run = subst (λ (v : Session). Standing v x) (sym run) h
+entries-stand [] (e ∷ es) s t x h run = absurd run
+entries-stand (g ∷ gs) [] s t x h run = absurd run
+entries-stand (g ∷ gs) (e ∷ es) s t x h (u, first, rest) =
+    subst (λ (k : Book). Standing t (keepsEntries k gs es (keepsEntry (book s) g e x))) (entry-book s (record { in-range = h .in-range; reached = h .reached }) g e u first)
+    (entries-stand gs es u t (keepsEntry (book s) g e x) (entry-stands s x h g e u first) rest)
+
+module _ (s : Session) (x : Option Certificate) (h : Standing s x) where
+  pub page-stands : (xs : List GoalRecord) (u : PageReturned) → PageAnswered s xs (u .records) (u .changed) → Standing (u .changed .session) (keeps (book s) (B.page (goalsOf xs)) x)
+  page-stands xs u m =
+      let number = refusal (book s) (B.page (goalsOf xs)) in
+      elim (decLe number 0) [
+        | yes l ↦
+            let e : number ≡ 0 = omega arith in
+            let run = page-follows s (h .in-range) (h .reached) xs u m e .0 in
+            rw (eq-eqb number 0 e) (entries-stand (goalsOf xs) (entries (book s) (goalsOf xs)) s (u .changed .session) x h run)
+        | no l ↦
+            let d : number ≡ 0 → ⊥ = λ e. omega arith in
+            rw (ne-eqb number 0 d) (subst (λ (v : Session). Standing v x) (sym (page-unchanged s (h .in-range) (h .reached) xs u m d .0)) h)
+      ]
+
   pub called : (c : Made) (u : Returned c) → Meets s c u → Standing (sessionOf c u) (keeps (book s) (callOf c) x)
   unfolding refusal additionRefusal
-  called (addFlat left right) u m = dropped (callOf (addFlat left right)) u m
-  called (addImplication a b c) u m = dropped (callOf (addImplication a b c)) u m
+  called (addFlat left right) u m = dropped s x h (callOf (addFlat left right)) u m
+  called (addImplication a b c) u m = dropped s x h (callOf (addImplication a b c)) u m
   called (question g) u m =
-      answered g u (call-kept s (h .in-range) (h .reached) (question g) u m) (answer (book s) g) refl (asked-as s (h .in-range) (h .reached) g u m)
-  called (setMark j) u m = mark-set j u m
-  called (returnTo j) u m = dropped (callOf (returnTo j)) u m
+      answered s x h g u (call-kept s (h .in-range) (h .reached) (question g) u m) (answer (book s) g) refl (asked-as s (h .in-range) (h .reached) g u m)
+  called (setMark j) u m = mark-set s x h j u m
+  called (returnTo j) u m = dropped s x h (callOf (returnTo j)) u m
+  called (page xs) u m = page-stands xs u m
 
 run-stands : (cs : List Made) (s : Session) (x : Option Certificate) → Standing s x → (run : Run s cs) → Standing (endOf s cs run) (lastAnswer (book s) x (map callOf cs))
 unfolding lastAnswer

@@ -8,7 +8,9 @@ use Prim.Native.Nat.{ℕ}
 use lib.Dec.{eqb}
 use lib.ListN.{length, take}
 use Rattle.ipl.specs.Book as B
-use Rattle.ipl.specs.Book.{Book, Call, opened, answer, refusal, next}
+use Rattle.ipl.specs.Search.{Outcome}
+use Rattle.ipl.specs.Page.{Entry, searched, refutedBy}
+use Rattle.ipl.specs.Book.{Book, Call, opened, answer, refusal, afterEntry, entries, next}
 use Rattle.prover.specs.Calls.{Opened}
 use Rattle.prover.specs.Demand.{Made, callOf, sessionOf, Run}
 use Rattle.prover.specs.declared.Session.{Session}
@@ -26,13 +28,27 @@ abbrev pub withProblem : Book → ℕ → Option Claim → Option Certificate
 withProblem k g none = none
 withProblem k g (some c) = some (record { problem = problemOfBook k g; claim = c })
 
+abbrev pub keepsAnswer : Book → ℕ → Outcome → Option Certificate → Option Certificate
+keepsAnswer k g o x = orElse (withProblem k g (claimOfVerdict k o)) x
+
+-- After a page: of the last goal searched to a verdict.
+abbrev pub keepsEntry : Book → ℕ → Entry → Option Certificate → Option Certificate
+keepsEntry k g (searched o) x = keepsAnswer k g o x
+keepsEntry k g (refutedBy j) x = x
+
+abbrev pub keepsEntries : Book → List ℕ → List Entry → Option Certificate → Option Certificate
+keepsEntries k [] es x = x
+keepsEntries k (g ∷ gs) [] x = x
+keepsEntries k (g ∷ gs) (e ∷ es) x = keepsEntries (afterEntry k e) gs es (keepsEntry k g e x)
+
 -- What there is to write after a call: an addition or a return that is taken leaves nothing, a verdict its problem and answer; else
 -- it stays.
 abbrev pub keeps : Book → Call → Option Certificate → Option Certificate
 keeps k (B.add a) x = cond (eqb (refusal k (B.add a)) 0) none x
-keeps k (B.question g) x = orElse (withProblem k g (claimOfVerdict k (answer k g))) x
+keeps k (B.question g) x = keepsAnswer k g (answer k g) x
 keeps k (B.setMark j) x = x
 keeps k (B.returnTo j) x = cond (eqb (refusal k (B.returnTo j)) 0) none x
+keeps k (B.page gs) x = cond (eqb (refusal k (B.page gs)) 0) (keepsEntries k gs (entries k gs) x) x
 
 -- "The session keeps its last verdict until a clause is added", or a mark returned to; by the book alone: x is what there was before
 -- the calls.

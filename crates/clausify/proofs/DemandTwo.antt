@@ -21,7 +21,7 @@ use Rattle.prover.specs.InRange.{inRange}
 use Rattle.prover.specs.declared.Session.{Session}
 use Rattle.prover.specs.declared.Verdict.{Verdict}
 use Rattle.prover.specs.declared.Answered.{Answered}
-use Rattle.prover.proofs.DemandThree.{nothing-in-range, asked-as}
+use Rattle.prover.proofs.Keeping.{nothing-in-range, asked-as}
 use Rattle.ipl.specs.Formula.{Formula}
 use Rattle.syntax.specs.Nodes.{letter, indexOf, nodes, named}
 use Rattle.syntax.specs.Refusal.{mostNames, Accepted}
@@ -108,10 +108,10 @@ module _ (s : List ℕ) (t : Formula) (accepted : Accepted s t) (r : Settled) (u
   unfolding isValid isRefuted demand.worldsOf
   says (valid end) c e a =
       subst (λ (v : Verdict). Says s v (worldsOf (r .session .worlds))) (sym (a .0 .verdict))
-      (t, accepted .reads, no-countermodel t few (λ m k. c .valid-iff tt .0 tt m (subst (λ (X : Type 0). X) (sym (of-text m)) k)))
+      (t, accepted .reads, no-countermodel t few (λ m k. c .right .valid-iff tt .0 tt m (subst (λ (X : Type 0). X) (sym (of-text m)) k)))
   says (refuted end) c e a =
       subst (λ (v : Verdict). Says s v (worldsOf (r .session .worlds))) (sym (a .0 .verdict))
-      (t, accepted .reads, rw (a .0 .shows) (worlds-refute t (end .worlds) (subst (λ (X : Type 0). X) (of-text (shown (end .worlds))) (c .shown-one tt))))
+      (t, accepted .reads, rw (a .0 .shows) (worlds-refute t (end .worlds) (subst (λ (X : Type 0). X) (of-text (shown (end .worlds))) (c .right .shown-one tt))))
   says (refused number) c e a = subst (λ (v : Verdict). Says s v (worldsOf (r .session .worlds))) (sym (a .0)) (inr (t, accepted, e))
   says unfinished c e a = absurd (a .0)
 

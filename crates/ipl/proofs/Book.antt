@@ -19,10 +19,10 @@ use Rattle.ipl.specs.Search.{Step, State, Outcome, valid, refuted, refus
 use Rattle.ipl.specs.Kripke.{Model, shown}
 use Rattle.ipl.specs.Claim.{Countermodel, StepsRight}
 use Rattle.ipl.specs.Marks.{markTable, placeOf, isSet}
-use Rattle.ipl.specs.Book.{Book, Addition, addFlat, addImplication, Call, add, question, setMark, returnTo, countInRange, opened, flatsFull}
+use Rattle.ipl.specs.Book.{Book, Addition, addFlat, addImplication, Call, add, question, setMark, returnTo, page, countInRange, opened, flatsFull}
 use Rattle.ipl.specs.Book.{flatRefusal, implicationRefusal, additionRefusal, goalRefusal, answer, markRefusal, returnRefusal, refusal}
-use Rattle.ipl.specs.Book.{added, stepsAfter, taken, next, after}
-use Rattle.ipl.specs.Demand.{isValid, isRefuted, isVerdict, worldsOf, Settled, RowsWellFormed, Marked, WellFormed, Answered, Claims}
+use Rattle.ipl.specs.Book.{added, stepsAfter, afterAnswer, taken, next, after}
+use Rattle.ipl.specs.Demand.{isValid, isRefuted, isVerdict, Settled, RowsWellFormed, Marked, WellFormed, Answered, Claims}
 use Rattle.ipl.proofs.Lists.{All-map, All-append, any-left, any-last}
 use Rattle.ipl.proofs.Range.{AtomOrBot, ImplicationBelow, atom-or-bot, flat-below, implication-below, one-in-range}
 use Rattle.ipl.proofs.PropositionTwo.{refuting-countermodel}
@@ -30,6 +30,7 @@ use Rattle.ipl.proofs.Steps.{steps-more, step-numbers, clauses-same, de
 use Rattle.ipl.proofs.Witness.{Witnessed, witnessed-none, witnessed-same}
 use Rattle.ipl.proofs.Search.{OutcomeRight, search-right}
 use Rattle.ipl.proofs.Marks.{Longer, same, marked-map, longer-marked, set-marked, returned-marked}
+use Rattle.ipl.proofs.Page.{valid-right, refuted-right, no-verdict-right, entries-kept, page-settled}
 use Rattle.ipl.proofs.Limits.{Fits, Ended, search-ends, search-fits, verdict-iff-needs-no-more, eight-atoms}
 
 -- What rows reached by calls hold, and the witnesses of their steps.
@@ -268,8 +269,7 @@ module _ (k : Book) (g : ℕ) (r : Reached k) where
       (eqb (goalRefusal k g) 0) outcome (refused (goalRefusal k g))
       (λ _. (outcome-right, search-fits (k .n) (k .flats) (k .implications) g (k .steps) (r .rows .well-formed .step-count))) (λ _. (tt, tt))
 
-  question-reached : Reached (taken k (question g))
-  unfolding taken
+  pub question-reached : Reached (afterAnswer k (answer k g))
   question-reached =
       longer-marked RowsReached k r (same (k .flats)) (same (k .implications)) (steps-longer (answer k g) (answer-right .0))
       (steps-reached (answer k g) (answer-right .0) (answer-right .1))
@@ -293,25 +293,11 @@ module _ (k : Book) (g : ℕ) (r : Reached k) where
     -- Whichever way the search ends, given that it ends in a verdict exactly if it needs no more.
     settled : (o : Outcome) → OutcomeRight (k .n) (k .flats) (k .implications) g (k .steps) o
         → T (isVerdict o) ↔ NeedsNoMore (k .n) (k .flats) (k .implications) g (start (k .steps)) → Settled k g o
-    unfolding isValid isRefuted worldsOf
-    settled (valid s) h v = record {
-      valid-iff = λ _. (λ _. no-countermodel s h, λ _. tt);
-      refuted-iff = λ _. (λ t. absurd t, λ c. no-countermodel s h (c .0) (c .1));
-      shown-one = λ t. absurd t;
-      verdict-iff = v;
-      eight = eight;
-    }
-    settled (refuted s) h v = record {
-      valid-iff = λ _. (λ t. absurd t, λ f. f (shown (s .worlds)) (worlds-countermodel s h));
-      refuted-iff = λ _. (λ _. (shown (s .worlds), worlds-countermodel s h), λ _. tt);
-      shown-one = λ _. worlds-countermodel s h;
-      verdict-iff = v;
-      eight = eight;
-    }
-    settled (refused number) h v =
-        record { valid-iff = λ t. absurd t; refuted-iff = λ t. absurd t; shown-one = λ t. absurd t; verdict-iff = v; eight = eight }
-    settled unfinished h v =
-        record { valid-iff = λ t. absurd t; refuted-iff = λ t. absurd t; shown-one = λ t. absurd t; verdict-iff = v; eight = eight }
+    unfolding isValid isRefuted
+    settled (valid s) h v = record { right = valid-right k g s (no-countermodel s h); verdict-iff = v; eight = eight }
+    settled (refuted s) h v = record { right = refuted-right k g s (worlds-countermodel s h); verdict-iff = v; eight = eight }
+    settled (refused number) h v = record { right = no-verdict-right k g (refused number) (λ t. t); verdict-iff = v; eight = eight }
+    settled unfinished h v = record { right = no-verdict-right k g unfinished (λ t. t); verdict-iff = v; eight = eight }
 
   pub question-settled : goalRefusal k g ≡ 0 → Settled k g (answer k g)
   question-settled e =
@@ -335,6 +321,7 @@ taken-reached k (add a) r e = added-reached k a r e
 taken-reached k (question g) r e = question-reached k g r
 taken-reached k (setMark j) r e = set-marked RowsReached k r j (mark-unrefused j e)
 taken-reached k (returnTo j) r e = returned-marked RowsReached k r (placeOf j (k .marks)) (return-unrefused k j e)
+taken-reached k (page gs) r e = entries-kept Reached question-reached gs k [] 0 r
 
 pub next-reached : (k : Book) (c : Call) → Reached k → Reached (next k c)
 unfolding next
@@ -360,6 +347,7 @@ answered k (add a) r = tt
 answered k (question g) r = question-settled k g r
 answered k (setMark j) r = tt
 answered k (returnTo j) r = tt
+answered k (page gs) r = page-settled Reached question-reached (λ k g r t. question-settled k g r (goal-taken k g t)) k gs r
 
 well-formed : (k : Book) → Reached k → WellFormed k
 well-formed = marked-map (λ n F X S r. r .well-formed)

@@ -12,5 +12,6 @@ pub mod Witness
 pub mod Search
 pub mod Limits
 pub mod Marks
+pub mod Page
 pub mod Book
 pub mod Returns

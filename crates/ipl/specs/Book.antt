@@ -1,14 +1,17 @@
 -- The book of demand 3: what is held after a list of calls, and the number that each call meets (documents 01 and 02).
 use mathlib.Core.Bool.{Bool, not, cond, _&&_}
 use mathlib.Core.List.{List, [], _∷_, _++_}
+use mathlib.Core.Option.{Option, none, some}
 use Prim.Native.Nat.{ℕ, suc}
 use lib.Dec.{eqb, leb, ltb}
 use lib.ListN.{length, take}
 use Rattle.atoms.specs.Sets.{limit}
+use Rattle.ipl.specs.Lists.{all}
 use Rattle.ipl.specs.Clause.{bot, Flat, Implication, closings}
 use Rattle.ipl.specs.Range.{flatTable, implicationTable, atomOrBot, flatInRange, implicationInRange}
 use Rattle.ipl.specs.Search.{Step, Outcome, valid, refuted, refused, unfinished, search}
 use Rattle.ipl.specs.Marks.{markTable, Mark, setLast, placeOf, isSet, markAt}
+use Rattle.ipl.specs.Page.{goalTable, Found, earliest, Entry, searched, refutedBy, foundBy}
 
 -- "It has n, flat clauses, implications and learned steps, each in order"; and marks, in the order in which they were last set.
 pub record Book : Type 0 where
@@ -23,12 +26,13 @@ pub data Addition : Type 0 where
   addFlat : Flat → Addition
   addImplication : Implication → Addition
 
--- "putting a question"; setting a mark and coming back to it "join demand 3's list".
+-- "putting a question"; setting a mark, coming back to it and a page of goals "join demand 3's list".
 pub data Call : Type 0 where
   add : Addition → Call
   question : ℕ → Call
   setMark : ℕ → Call
   returnTo : ℕ → Call
+  page : List ℕ → Call
 
 unfoldable pub countInRange : ℕ → Bool
 countInRange n = leb 1 n && leb n limit
@@ -80,12 +84,17 @@ markRefusal j = cond (ltb j markTable) 0 17
 unfoldable pub returnRefusal : Book → ℕ → ℕ
 returnRefusal k j = cond (ltb j markTable) (cond (isSet j (k .marks)) 0 18) 17
 
--- The number of the refusal that a call meets; 0 for none.
+-- "6 for any goal, before the first is searched; 19 for more than 64, before that."
+unfoldable pub pageRefusal : Book → List ℕ → ℕ
+pageRefusal k gs = cond (leb (length gs) goalTable) (cond (all (atomOrBot (k .n)) gs) 0 6) 19
+
+-- The number of the refusal that a call meets; 0 for none. A goal of a page that meets 11 or 12 "has that in its record".
 unfoldable pub refusal : Book → Call → ℕ
 refusal k (add a) = additionRefusal k a
 refusal k (question g) = numberOf (answer k g)
 refusal k (setMark j) = markRefusal j
 refusal k (returnTo j) = returnRefusal k j
+refusal k (page gs) = pageRefusal k gs
 
 -- What an addition makes of the book.
 unfoldable pub added : Book → Addition → Book
@@ -100,6 +109,36 @@ stepsAfter S (valid s) = s .steps
 stepsAfter S (refuted s) = s .steps
 stepsAfter S (refused number) = S
 stepsAfter S unfinished = S
+
+abbrev pub afterAnswer : Book → Outcome → Book
+afterAnswer k o =
+    record { n = k .n; flats = k .flats; implications = k .implications; steps = stepsAfter (k .steps) o; marks = k .marks }
+
+-- What the goal g of a page gets, put to the book k; M are the models found before.
+abbrev pub entryBy : Book → ℕ → Option ℕ → Entry
+entryBy k g none = searched (answer k g)
+entryBy k g (some j) = refutedBy j
+
+abbrev pub entry : Book → List Found → ℕ → Entry
+entry k M g = entryBy k g (earliest g M)
+
+-- "Each goal searched is a question"; another changes nothing.
+abbrev pub afterEntry : Book → Entry → Book
+afterEntry k (searched o) = afterAnswer k o
+afterEntry k (refutedBy j) = k
+
+-- "Goals are taken in order": what each from the place i on gets.
+unfoldable pub entriesFrom : Book → List Found → ℕ → List ℕ → List Entry
+entriesFrom k M i [] = []
+entriesFrom k M i (g ∷ gs) =
+    entry k M g ∷ entriesFrom (afterEntry k (entry k M g)) (M ++ foundBy i (entry k M g)) (suc i) gs
+
+abbrev pub entries : Book → List ℕ → List Entry
+entries k gs = entriesFrom k [] 0 gs
+
+unfoldable pub afterEntries : Book → List Entry → Book
+afterEntries k [] = k
+afterEntries k (e ∷ es) = afterEntries (afterEntry k e) es
 
 -- Mark j, set now.
 abbrev pub markNow : Book → ℕ → Mark
@@ -122,11 +161,11 @@ returned k i = cutTo k (markAt (k .marks) i) (take (suc i) (k .marks))
 -- What a call that is not refused makes of the book.
 unfoldable pub taken : Book → Call → Book
 taken k (add a) = added k a
-taken k (question g) =
-    record { n = k .n; flats = k .flats; implications = k .implications; steps = stepsAfter (k .steps) (answer k g); marks = k .marks }
+taken k (question g) = afterAnswer k (answer k g)
 taken k (setMark j) =
     record { n = k .n; flats = k .flats; implications = k .implications; steps = k .steps; marks = setLast (markNow k j) (k .marks) }
 taken k (returnTo j) = returned k (placeOf j (k .marks))
+taken k (page gs) = afterEntries k (entries k gs)
 
 -- "A call that meets one of the caller's refusals, judged by the book, changes nothing", nor does one that meets 11 or 12.
 unfoldable pub next : Book → Call → Book

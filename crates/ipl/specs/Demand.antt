@@ -5,7 +5,7 @@ use mathlib.Core.Logic.{_↔_}
 use mathlib.Core.Path.{_≡_}
 use Prim.Native.Nat.{ℕ, _≤_, _<_}
 use lib.Dec.{T}
-use lib.ListN.{length, take}
+use lib.ListN.{length, take, getD}
 use Rattle.atoms.specs.Sets.{limit}
 use Rattle.ipl.specs.Lists.{All, Pairwise}
 use Rattle.ipl.specs.Clause.{Flat, Implication, closed}
@@ -14,7 +14,8 @@ use Rattle.ipl.specs.Search.{Step, Outcome, valid, refuted, refused, unf
 use Rattle.ipl.specs.Kripke.{Model, shown}
 use Rattle.ipl.specs.Claim.{Countermodel, StepsRight}
 use Rattle.ipl.specs.Marks.{markTable, Mark}
-use Rattle.ipl.specs.Book.{Book, Call, add, question, setMark, returnTo, opened, goalRefusal, answer, refusal, next, after}
+use Rattle.ipl.specs.Page.{Entry, searched, refutedBy}
+use Rattle.ipl.specs.Book.{Book, Call, add, question, setMark, returnTo, page, opened, goalRefusal, pageRefusal, answer, afterEntry, entries, refusal, next, after}
 
 unfoldable pub isValid : Outcome → Bool
 isValid (valid s) = true
@@ -38,17 +39,56 @@ worldsOf (refused number) = []
 worldsOf unfinished = []
 
 -- Of the answer o to the goal g, over the clauses that the book k then holds.
-pub record Settled (k : Book) (g : ℕ) (o : Outcome) : Type 0 where
+pub record VerdictRight (k : Book) (g : ℕ) (o : Outcome) : Type 0 where
   -- "Every verdict .. is valid exactly when no finite Kripke model .. holds at its root the clauses .., without the goal,"
   pub valid-iff : T (isVerdict o) → (T (isValid o) ↔ ((m : Model) → Countermodel (k .flats) (k .implications) g m → ⊥))
   -- "and refuted exactly when there is one;"
   pub refuted-iff : T (isVerdict o) → (T (isRefuted o) ↔ ((m : Model) × Countermodel (k .flats) (k .implications) g m))
   -- "the worlds shown are one."
   pub shown-one : T (isRefuted o) → Countermodel (k .flats) (k .implications) g (shown (worldsOf o))
+
+-- The same, and when there is a verdict.
+pub record Settled (k : Book) (g : ℕ) (o : Outcome) : Type 0 where
+  pub right : VerdictRight k g o
   -- It "gets a verdict exactly when the search .. needs neither a 257th world nor a 513th learned step,"
   pub verdict-iff : T (isVerdict o) ↔ NeedsNoMore (k .n) (k .flats) (k .implications) g (start (k .steps))
   -- "and over eight atoms or fewer it never needs either."
   pub eight : k .n ≤ 8 → NeedsNoMore (k .n) (k .flats) (k .implications) g (start (k .steps))
+
+-- ---- pages
+
+abbrev pub ownOutcome : Entry → Outcome
+ownOutcome (searched o) = o
+ownOutcome (refutedBy j) = unfinished
+
+-- What a goal of a page comes to, E being what all of its goals get: "the worlds of a goal refuted without a search are those of the
+-- goal it names".
+abbrev pub outcomeOf : List Entry → Entry → Outcome
+outcomeOf E (searched o) = o
+outcomeOf E (refutedBy j) = ownOutcome (getD E j (refutedBy j))
+
+-- "Each goal searched is a question"; without a search a goal is refuted.
+abbrev pub AsQuestion : Book → List Entry → ℕ → Entry → Type 0
+AsQuestion l E g (searched o) = Settled l g o
+AsQuestion l E g (refutedBy j) = T (isRefuted (outcomeOf E (refutedBy j)))
+
+-- Of a goal g that gets e: k is the book before the page, and l the one that g is put to.
+pub record GoalSettled (k l : Book) (E : List Entry) (g : ℕ) (e : Entry) : Type 0 where
+  pub as-question : AsQuestion l E g e
+  pub right : VerdictRight l g (outcomeOf E e)
+  -- "Each verdict of a page, valid or refuted, is that of the goal put alone, wherever both give one."
+  pub alone : T (isVerdict (outcomeOf E e)) → T (isVerdict (answer k g)) → isValid (outcomeOf E e) ≡ isValid (answer k g)
+
+-- Of each goal, in order.
+abbrev pub GoalsSettled : Book → List Entry → Book → List ℕ → List Entry → Type 0
+GoalsSettled k E l [] es = Unit {0}
+GoalsSettled k E l (g ∷ gs) [] = ⊥
+GoalsSettled k E l (g ∷ gs) (e ∷ es) = GoalSettled k l E g e × GoalsSettled k E (afterEntry l e) gs es
+
+abbrev pub PageSettled : Book → List ℕ → Type 0
+PageSettled k gs = GoalsSettled k (entries k gs) k gs (entries k gs)
+
+-- ---- books reached
 
 -- What rows reached by calls hold: numbers in range, tables not exceeded, closing clauses held, steps right.
 pub record RowsWellFormed (n : ℕ) (F : List Flat) (X : List Implication) (S : List Step) : Type 0 where
@@ -91,12 +131,13 @@ pub record Marked (P : OfRows) (k : Book) : Type 0 where
 abbrev pub WellFormed : Book → Type 0
 WellFormed = Marked RowsWellFormed
 
--- Of a question "that meets none of the caller's refusals", that its answer is settled.
+-- Of a question or a page "that meets none of the caller's refusals", that its answer is settled.
 abbrev pub Answered : Book → Call → Type 0
 Answered k (add a) = Unit {0}
 Answered k (question g) = goalRefusal k g ≡ 0 → Settled k g (answer k g)
 Answered k (setMark j) = Unit {0}
 Answered k (returnTo j) = Unit {0}
+Answered k (page gs) = pageRefusal k gs ≡ 0 → PageSettled k gs
 
 -- Of a call to the book k, refused or not.
 pub record Claim (k : Book) (c : Call) : Type 0 where

@@ -8,5 +8,6 @@ pub mod Formula
 pub mod Kripke
 pub mod Claim
 pub mod Marks
+pub mod Page
 pub mod Book
 pub mod Demand

@@ -21,6 +21,9 @@ pub const WORLDS: usize = 256;
 
 pub const MARKS: usize = 8;
 
+// The goals of a page.
+pub const GOALS: usize = 64;
+
 // The flat clauses and the clauses of the steps.
 pub const KNOWN: usize = FLATS + STEPS;
 

@@ -1,15 +1,20 @@
-// Executed cases that no script can say: sessions and verdicts that no call gives, the end of the total, buffers of every length.
+// Executed cases that no script can say: sessions and verdicts that no call gives, the end of the total, buffers of every length,
+// records that hold something.
 // `stdout` was worked out apart from this code.
 use atoms::AtomSet;
 use certify::Length;
 use libc::STDOUT_FILENO;
 use prover::Flats;
+use prover::GoalAnswer;
+use prover::GoalRecord;
 use prover::Held;
 use prover::Implications;
 use prover::Mark;
+use prover::Records;
 use prover::Session;
 use prover::Steps;
 use prover::Verdict;
+use prover::Worlds;
 
 // The sessions have atoms 0 to 2; this is the set of atom 3.
 const OUTSIDE: u64 = 8;
@@ -357,6 +362,68 @@ fn longest(s: Session) {
     show(b"full tables, one byte short", s, &mut short);
 }
 
+fn print_answer(answer: GoalAnswer) {
+    match answer {
+        GoalAnswer::Open => print(b" open"),
+        GoalAnswer::Valid(steps) => print_number(b" valid by ", steps),
+        GoalAnswer::Refuted(worlds) => print_number(b" refuted by ", worlds),
+        GoalAnswer::RefutedBy(place) => print_number(b" refuted by the model of ", place),
+        GoalAnswer::Refused(number) => print_byte(b" refused ", number),
+    }
+}
+
+fn print_record(what: &[u8], r: GoalRecord) {
+    let answer = r.answer;
+    let worlds = r.worlds;
+    print_byte(what, r.goal);
+    print_answer(answer);
+    print_number(b" with ", worlds.count);
+    print_number(b" from ", worlds.sets[0] as usize);
+}
+
+// With an answer and worlds that no page has written.
+fn written(goal: u8) -> GoalRecord {
+    GoalRecord {
+        goal,
+        answer: GoalAnswer::Valid(7),
+        worlds: Worlds {
+            count: 9,
+            sets: [UNWRITTEN as u64; ipl::WORLDS * atoms::WORDS],
+        },
+    }
+}
+
+// A page of so many records, the first with one goal and the others with another; what the first two then hold, and the session.
+fn print_page(what: &[u8], s: Session, count: usize, first: u8, other: u8) {
+    let mut rows = [written(other); ipl::GOALS + 1];
+    rows[0] = written(first);
+    let paged = prover::page_of(Records { count, rows }, s);
+    let changed = paged.changed;
+    let after = paged.records;
+    print(what);
+    print_byte(b": page ", changed.refusal);
+    print_number(b" of ", after.count);
+    print_record(b"; goal ", after.rows[0]);
+    print_record(b"; goal ", after.rows[1]);
+    print_session(changed.session);
+}
+
+fn pages(s: Session) {
+    print_page(b"no goal", s, 0, 0, 0);
+    print_page(b"one goal", s, 1, 2, 0);
+    print_page(b"two goals", s, 2, 0, ipl::BOTTOM);
+    print_page(b"64 goals", s, 64, 0, 2);
+    print_page(b"65 goals", s, 65, 0, 2);
+    print_page(b"more goals than rows", s, 66, 0, 2);
+    print_page(b"goal 3 behind another", s, 2, 0, 3);
+    print_page(b"65 goals, one of them 3", s, 65, 3, 0);
+    let mut t = s;
+    t.total = LAST_TOTAL;
+    print_page(b"total at its end", t, 2, 0, 0);
+    t.n = 0;
+    print_page(b"n 0 and 65 goals", t, 65, 0, 0);
+}
+
 fn main() {
     let s = asked();
     tried(b"in range", s);
@@ -370,4 +437,5 @@ fn main() {
     verdicts(s);
     buffers(s);
     longest(full(s));
+    pages(s);
 }

@@ -3,6 +3,12 @@ pub mod Ranges
 pub mod Sessions
 pub mod Rows
 pub mod MarkRows
+pub mod ModelRows
+pub mod Pages
+pub mod Underway
+pub mod Walking
+pub mod Shut
+pub mod Lending
 pub mod Refusals
 pub mod Returns
 pub mod Beyond
@@ -12,4 +18,6 @@ pub mod Known
 pub mod Turns
 pub mod Runs
 pub mod Answers
+pub mod Keeping
+pub mod PageRuns
 pub mod DemandThree

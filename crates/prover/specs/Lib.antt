@@ -4,6 +4,8 @@
 pub mod State
 pub mod InRange
 pub mod Calls
+pub mod Page
+pub mod Paging
 pub mod Working
 pub mod Search
 pub mod Settling

@@ -1,9 +1,13 @@
 // A session: it holds clauses, decides whether they force a goal, keeps what it learned, and comes back to marks.
 use atoms::AtomSet;
 ghost use Rattle.prover.specs.Calls.{Opened, FlatAdded, ImplicationAdded, Asked, MarkSet, MarkReturned};
+ghost use Prim.Native.Nat.{_+_, _≤_};
+ghost use Rattle.ipl.specs.Page.{goalTable};
+ghost use Rattle.prover.specs.Page.{PageAnswered, PagedAs};
 
 mod additions;
 mod marking;
+mod paging;
 mod question;
 mod range;
 mod realization;
@@ -88,6 +92,35 @@ pub enum Verdict {
 pub struct Answered {
     pub verdict: Verdict,
     pub session: Session,
+}
+
+// What a page says of a goal: valid, with the count of steps held; refuted by its own search, with the count of worlds, or by the
+// model of an earlier goal, with that goal's place; or refused, with a number. No page leaves a goal open.
+pub enum GoalAnswer {
+    Open,
+    Valid(usize),
+    Refuted(usize),
+    RefutedBy(usize),
+    Refused(u8),
+}
+
+// A goal of a page, the place for its answer, and beside it the worlds of its own search.
+pub struct GoalRecord {
+    pub goal: u8,
+    pub answer: GoalAnswer,
+    pub worlds: Worlds,
+}
+
+// Records for a page, by value: the first `count` of them. There is a row more than a page may have, so that one too many can be lent.
+pub struct Records {
+    pub count: usize,
+    pub rows: [GoalRecord; ipl::GOALS + 1],
+}
+
+// What a page returned, and its records then.
+pub struct Paged {
+    pub changed: Changed,
+    pub records: Records,
 }
 
 // A session of n atoms. Refused 5: the empty session of one atom.
@@ -192,4 +225,47 @@ pub fn return_to(s: Session, mark: u8) -> Changed
             session: s,
         }
     }
+}
+
+// Puts a page of goals, in order: a goal that the root of an earlier model of this page lacks is refuted by the earliest such model,
+// another is a question. Refused 5, 19, 6: the session as given and the records as they were.
+pub fn page(records: &mut [GoalRecord], s: Session) -> Changed
+    ensures { λ r. ⌜ PageAnswered s (now (records .entry)) (now (records .exit)) r ⌝ }
+{
+    let mut p = paging::begin(s, records.len());
+    while p.at < p.count {
+        let i = p.at;
+        let t = paging::take(p, records[i]);
+        records[i] = t.rec;
+        p = t.page;
+    }
+    paging::end(p)
+}
+
+// Lends the first records to a page. The caller has seen that there are so many.
+fn lend(records: Records, s: Session) -> Paged
+    requires { ⌜ records .count ≤ goalTable + 1 ⌝ }
+    ensures { λ r. ⌜ PagedAs s records r ⌝ }
+{
+    let mut rows = records.rows;
+    let changed = page(&mut rows[..records.count], s);
+    Paged {
+        changed,
+        records: Records {
+            count: records.count,
+            rows,
+        },
+    }
+}
+
+// A page of records by value, for callers that lend none. A count above that of the rows is taken for theirs.
+pub fn page_of(records: Records, s: Session) -> Paged
+    ensures { λ r. ⌜ PagedAs s records r ⌝ }
+{
+    if records.count <= ipl::GOALS + 1 {
+        return lend(records, s);
+    }
+    let mut all = records;
+    all.count = ipl::GOALS + 1;
+    lend(all, s)
 }

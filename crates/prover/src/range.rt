@@ -1,4 +1,4 @@
-// What refusals 5 to 8, 17 and 18 judge.
+// What refusals 5 to 8 and 17 to 19 judge.
 use super::Flats;
 use super::Held;
 use super::Implications;
@@ -16,6 +16,7 @@ ghost use Rattle.ipl.specs.Clause.{bot};
 ghost use Rattle.ipl.specs.Range.{flatTable};
 ghost use Rattle.prover.specs.State.{markOf};
 ghost use Rattle.prover.specs.Calls.{flatOf, flatNumber, implicationNumber, goalNumber, markNumber, returnNumber};
+ghost use Rattle.prover.specs.Page.{listNumber};
 ghost use Rattle.prover.specs.InRange.{flatsInRange, implicationsInRange, stepsInRange, worldsInRange, heldInRange, markInRange, marksInRange, inRange};
 
 fn flats_in_range(t: Flats, n: u8) -> bool
@@ -236,4 +237,14 @@ pub fn return_refusal(s: Session, mark: u8) -> u8
     } else {
         18
     }
+}
+
+// The number of the refusal that a page of so many goals meets before they are judged, or 0.
+pub fn list_refusal(s: Session, count: usize) -> u8
+    ensures { λ r. ⌜ r ≡ listNumber s count ⌝ }
+{
+    if !in_range(s) {
+        return 5;
+    }
+    if count <= ipl::GOALS { 0 } else { 19 }
 }

@@ -84,6 +84,9 @@ each-length line (x ∷ l) h = omega (arith, length-append (line x) (each line l
 set-short : (n x : ℕ) → n ≤ limit → x < 2 ^ n → x < 10 ^ 20
 set-short n x h k = omega (arith, pow-mono {i = n} {j = limit} h, set-digits)
 
+pub worlds-length : (n : ℕ) (W : List ℕ) → n ≤ limit → All (λ w. w < 2 ^ n) W → length (each worldLine W) ≤ 30 * length W
+worlds-length n W h below = each-length worldLine W (All-map W (λ w k. world-length w (set-short n w h k)) below)
+
 steps-length : (n : ℕ) (F : List Flat) (X : List Implication) (P S : List Step) → n ≤ limit → length X ≤ 128 → StepsRight n F X P S
     → All (λ s. length (stepLine s) ≤ 30) S
 steps-length n F X P [] h k r = tt
@@ -94,7 +97,7 @@ search-refusal-short : (number : ℕ) → Ended (refused number) → length (tex
 search-refusal-short number (inl e) = omega (arith, refusal-length (eqb number 3) 1 3 number 0 (omega arith) (omega arith))
 search-refusal-short number (inr e) = omega (arith, refusal-length (eqb number 3) 1 3 number 0 (omega arith) (omega arith))
 
-goal-number : (k : Book) (g : ℕ) → goalRefusal k g ≤ 6
+pub goal-number : (k : Book) (g : ℕ) → goalRefusal k g ≤ 6
 unfolding goalRefusal
 goal-number k g = by-cond (λ (x : ℕ). x ≤ 6) (atomOrBot (k .n) g) 0 6 (λ _. omega arith) (λ _. omega arith)
 
@@ -117,13 +120,12 @@ module _ (k : Book) (g total : ℕ) (r : Reached k) where
       )
   outcome-fits (refuted end) right fits e =
       let q = totalAfter total (end .questions) in
-      let lines = All-map (end .worlds) (λ w h. world-length w (set-short (k .n) w (r .rows .well-formed .few) h)) (right .below) in
       omega (
         arith,
         length-append (ascii "refuted\n" ++ figures (k .n) q (length (end .steps))) (each worldLine (end .worlds)),
         length-append (ascii "refuted\n") (figures (k .n) q (length (end .steps))),
         figures-length (k .n) q (length (end .steps)) few (omega arith) (omega (arith, fits .1)),
-        each-length worldLine (end .worlds) lines,
+        worlds-length (k .n) (end .worlds) (r .rows .well-formed .few) (right .below),
         fits .0,
       )
   outcome-fits (refused number) right fits e = omega (arith, search-refusal-short number e)

@@ -11,7 +11,7 @@ use Rattle.prover.specs.Calls.{totalAfter, Asked, AskedAs}
 use Rattle.prover.specs.declared.Session.{Session}
 use Rattle.prover.specs.declared.Verdict.{Verdict}
 use Rattle.prover.specs.declared.Answered.{Answered}
-use Rattle.prover.proofs.DemandThree.{nothing-in-range, asked-as}
+use Rattle.prover.proofs.Keeping.{nothing-in-range, asked-as}
 use Rattle.ipl.specs.Formula.{Formula}
 use Rattle.syntax.specs.Judge as judgement
 use Rattle.syntax.specs.Judge.{Judgement, judge}

@@ -9,6 +9,9 @@ ghost use Rattle.text.specs.Output.{Appends, Reported};
 
 mod lines;
 
+// A line for each world.
+pub use lines::worlds;
+
 fn write_valid(draft: &mut [u8], s: Session) -> usize
     ensures { λ r. ⌜ Appends (validReport (s .n) (s .total) (stepsOf (s .steps))) (now (draft .entry)) 0 (now (draft .exit)) r ⌝ }
 {

@@ -1,22 +1,27 @@
 -- There is room for the answer to every line, so it is written whole.
 use mathlib.Core.Bool.{false, not, cond, _&&_}
-use mathlib.Core.List.{List, _++_}
+use mathlib.Core.List.{List, [], _++_}
 use mathlib.Core.Logic.{inl, inr}
 use mathlib.Core.Option.{Option, none, some}
 use mathlib.Core.Path.{_≡_, ap, _∙_}
 use Prim.Native.Nat.{ℕ, _≤_}
+use native.Mathlib.Decide.{decLe}
 use native.Mathlib.Omega.{arith}
 use lib.Dec.{T, eqb, leb, ltb}
 use lib.ListN.{length, take, length-append}
 use lib.Seq.{take-all}
+use borrow.Author.Tests.{eq-eqb, ne-eqb}
 use Rattle.atoms.proofs.Machine.{limit-small}
 use Rattle.atoms.proofs.Truth.{by-cond}
 use Rattle.ipl.specs.Clause.{bot, Flat, Implication}
 use Rattle.ipl.specs.Range.{implicationTable, atomOrBot, flatInRange, implicationInRange}
+use Rattle.ipl.specs.Lists.{all}
 use Rattle.ipl.specs.Marks.{markTable, isSet}
-use Rattle.ipl.specs.Book.{Book, addFlat, addImplication, Call, add, question, setMark, returnTo, countInRange}
-use Rattle.ipl.specs.Book.{openRefusal, flatsFull, flatRefusal, implicationRefusal, additionRefusal, markRefusal, returnRefusal, refusal}
+use Rattle.ipl.specs.Page.{goalTable}
+use Rattle.ipl.specs.Book.{Book, addFlat, addImplication, Call, add, question, setMark, returnTo, page, countInRange}
+use Rattle.ipl.specs.Book.{openRefusal, flatsFull, flatRefusal, implicationRefusal, additionRefusal, markRefusal, returnRefusal, pageRefusal, refusal}
 use Rattle.ipl.proofs.Range.{AtomOrBot, atom-or-bot}
+use Rattle.ipl.proofs.Page.{page-few}
 use Rattle.prover.specs.State.{book}
 use Rattle.prover.specs.declared.Session.{Session}
 use Rattle.ipl.specs.Formula.{Formula}
@@ -42,6 +47,7 @@ use Rattle.script.specs.Command.{Command, openSession, readText, callBoo
 use Rattle.script.specs.State.{refusedLine, changedLine, textLine, lengthLine, sheetLine, printedCall, printedCommand, printedLine}
 use Rattle.script.specs.Transcript.{mostLines}
 use Rattle.script.specs.Run.{outputRoom}
+use Rattle.script.proofs.PageLines.{entries-length}
 use Rattle.script.proofs.Standing.{stateOf, Stands}
 
 abbrev pub Fits : List ℕ → Type 0
@@ -54,7 +60,7 @@ whole {T} {r = r} fits room a = let b = begun a in b .same ∙ take-all r T (ome
 
 -- The numbers of refused changes have at most two digits.
 abbrev Small : ℕ → Type 0
-Small k = k ≤ 18
+Small k = k ≤ 19
 
 changed-fits : (k : ℕ) → Small k → Fits (changedLine k)
 unfolding ascii
@@ -94,6 +100,13 @@ unfolding returnRefusal
 return-number k j =
     by-cond Small (ltb j markTable) (cond (isSet j (k .marks)) 0 18) 17
     (λ _. by-cond Small (isSet j (k .marks)) 0 18 (λ _. omega arith) (λ _. omega arith))
+    (λ _. omega arith)
+
+page-number : (k : Book) (gs : List ℕ) → Small (pageRefusal k gs)
+unfolding pageRefusal
+page-number k gs =
+    by-cond Small (leb (length gs) goalTable) (cond (all (atomOrBot (k .n)) gs) 0 6) 19
+    (λ _. by-cond Small (all (atomOrBot (k .n)) gs) 0 6 (λ _. omega arith) (λ _. omega arith))
     (λ _. omega arith)
 
 -- ---- texts
@@ -152,6 +165,15 @@ module _ (s : Session) (h : Stands s) where
   call-fits (question g) = omega (arith, answer-fits (book s) g (s .total) (h .reached))
   call-fits (setMark j) = changed-fits (markRefusal j) (mark-number j)
   call-fits (returnTo j) = changed-fits (returnRefusal (book s) j) (return-number (book s) j)
+  call-fits (page gs) = elim (decLe (pageRefusal (book s) gs) 0) [
+    | yes l ↦
+        let none : pageRefusal (book s) gs ≡ 0 = omega arith in
+        let few = page-few (book s) gs none in
+        rw (eq-eqb (pageRefusal (book s) gs) 0 none) (omega (arith, few, entries-length gs (book s) (h .reached) [] tt 0 (omega (arith, few))))
+    | no l ↦
+        let number = pageRefusal (book s) gs in
+        rw (ne-eqb number 0 (λ e. omega arith)) (omega (arith, page-number (book s) gs, refusal-length false 1 0 number 0 (omega (arith, page-number (book s) gs)) (omega arith)))
+  ]
 
   command-fits : (c : Command) → Fits (printedCommand (stateOf s) c)
   unfolding longest

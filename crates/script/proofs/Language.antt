@@ -2,7 +2,7 @@
 use mathlib.Core.Bool.{true, false, cond, _||_, true≢false}
 use mathlib.Core.List.{List, [], _∷_, _++_, append-assoc}
 use mathlib.Core.Logic.{_⊎_, inl, inr}
-use mathlib.Core.Option.{Option, none, some, bind}
+use mathlib.Core.Option.{Option, none, some, bind, Option·map}
 use mathlib.Core.Path.{_≡_, refl, sym, ap, _∙_, subst}
 use Prim.Native.Nat.{ℕ, _≤_, _<_}
 use native.Mathlib.Omega.{arith}
@@ -10,15 +10,16 @@ use lib.Dec.{leb}
 use lib.ListN.{length, drop, replicate}
 use borrow.Author.Tests.{eqb-true, leb-true, le-leb}
 use Rattle.atoms.proofs.Truth.{T-or, T-true, T-false, by-cond}
+use Rattle.ipl.specs.Book.{page}
 use Rattle.text.specs.Text.{ascii, hex}
 use Rattle.bytes.specs.Bytes.{indexOf, indexAfter}
 use Rattle.script.specs.Words.{space, split, wordsOf, unindented}
 use Rattle.script.specs.Numbers.{bytesIn}
-use Rattle.script.specs.Command.{Command, Line, silent, readText, tellLength, writeSheet, checkSheet, command, noCall}
-use Rattle.script.specs.Command.{same, verbOf, argument, end, sheetArgument, commandBy, commandFrom, commandIn, hash, isBlank, isComment, longestCall, orNone, lineOf}
-use Rattle.script.specs.Language.{Says, opens, reads, reads-nothing, adds-flat, adds-implication, asks, sets-mark, returns-to, tells, writes, checks, checks-nothing, CallsAreSaid, OneCall}
+use Rattle.script.specs.Command.{Command, Line, silent, readText, callBook, tellLength, writeSheet, checkSheet, command, noCall}
+use Rattle.script.specs.Command.{same, verbOf, argument, end, goalsIn, sheetArgument, commandBy, commandFrom, commandIn, hash, isBlank, isComment, longestCall, orNone, lineOf}
+use Rattle.script.specs.Language.{Says, opens, reads, reads-nothing, adds-flat, adds-implication, asks, pages, sets-mark, returns-to, tells, writes, checks, checks-nothing, CallsAreSaid, OneCall}
 use Rattle.script.specs.declared.reading.Verb.{Verb}
-use Rattle.script.specs.declared.reading.Verb.the-variants.{Open, Text, Flat, Implication, Ask, Mark, Return, Length, Sheet, Check, Other}
+use Rattle.script.specs.declared.reading.Verb.the-variants.{Open, Text, Flat, Implication, Ask, Page, Mark, Return, Length, Sheet, Check, Other}
 use Rattle.script.proofs.Splitting.{words-unindented, first-word, indented, unindented-more, first, behind-first, second-word}
 use Rattle.script.proofs.Hexadecimal.{hex-bytes, bytes-hex}
 use Rattle.script.proofs.Verbs.{Named, named}
@@ -40,6 +41,7 @@ said-is {line} (reads-nothing spaces e) = by-unindented line (ascii "text") (ap 
 said-is (adds-flat L R left right e f g) = rw (e, f, g)
 said-is (adds-implication A B C a b c e f g h) = rw (e, f, g, h)
 said-is (asks G g e f) = rw (e, f)
+said-is (pages G gs e f) = rw (e, f)
 said-is (sets-mark K j e f) = rw (e, f)
 said-is (returns-to K j e f) = rw (e, f)
 said-is (tells e) = rw e
@@ -105,6 +107,13 @@ module _ (line : List ℕ) where
           let d = bytes-hex w (b ∷ bytes) f in
           subst (Says line) (z .1) (checks b bytes (d .1) (cc))
 
+  said-page : (ws : List (List ℕ)) (c : Command) → wordsOf line ≡ ascii "page" ∷ ws → Option·map (λ gs. callBook (page gs)) (goalsIn ws) ≡ some c → Says line c
+  said-page ws c e h = go (goalsIn ws) refl h
+    where
+      go : (o : Option (List ℕ)) → goalsIn ws ≡ o → Option·map (λ gs. callBook (page gs)) o ≡ some c → Says line c
+      go none f g = absurd (never g)
+      go (some gs) f g = subst (Says line) (cc) (pages ws gs e f)
+
   said-by : (b : Verb) (verb : List ℕ) (ws : List (List ℕ)) (c : Command) → wordsOf line ≡ verb ∷ ws → Named verb b
       → commandBy b (drop (length verb) (unindented line)) ws ≡ some c → Says line c
   said-by Open verb ws c e v h =
@@ -131,6 +140,7 @@ module _ (line : List ℕ) where
       let g = argued _ _ ws c h in
       let z = ended _ (g .rest) c (g .further-is) in
       subst (Says line) (z .1) (asks (g .word) (g .value) (cc) (g .number-is))
+  said-by Page verb ws c e v h = said-page ws c (cc) h
   said-by Mark verb ws c e v h =
       let j = argued _ _ ws c h in
       let z = ended _ (j .rest) c (j .further-is) in

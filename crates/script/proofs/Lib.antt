@@ -5,6 +5,7 @@ pub mod Splitting
 pub mod Verbs
 pub mod Silence
 pub mod Calling
+pub mod Goals
 pub mod Language
 pub mod Digits
 pub mod SheetLines
@@ -13,6 +14,7 @@ pub mod Gathering
 pub mod Calls
 pub mod Performing
 pub mod Cutting
+pub mod PageLines
 pub mod Standing
 pub mod Fitting
 pub mod Transcript

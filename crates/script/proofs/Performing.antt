@@ -1,19 +1,28 @@
 -- A call that the code holds, by what it says of the line.
 use mathlib.Core.List.{List}
-use mathlib.Core.Path.{_≡_, sym, ap, _∙_, subst}
+use mathlib.Core.Option.{Option, some}
+use mathlib.Core.Path.{_≡_, refl, sym, ap, _∙_, subst}
 use Prim.Native.Nat.{ℕ, _-_, _≤_, min}
 use native.Mathlib.Omega.{arith}
 use lib.ListN.{length, take, drop, length-drop}
 use lib.Seq.{take-all}
+use Rattle.ipl.specs.Book.{page}
+use Rattle.prover.specs.Page.{goalsOf, recordsOf, PagedAs}
+use Rattle.prover.specs.declared.Records.{Records}
+use Rattle.prover.specs.declared.Paged.{Paged}
 use Rattle.prover.specs.declared.Session.{Session}
+use Rattle.text.specs.Output.{Appends}
 use Rattle.text.proofs.Appending.{begun}
-use Rattle.script.specs.Reading.{meaning, Inside}
-use Rattle.script.specs.Answer.{LineDone, Writes, lineRoom}
+use Rattle.script.specs.Words.{wordsOf}
+use Rattle.script.specs.Command.{callBook, goalsIn}
+use Rattle.script.specs.Reading.{goalRoom, GoalsAre, GoalsRead, pageOf, meaning, Inside}
+use Rattle.script.specs.Answer.{pageLines, CommandDone, LineDone, Writes, lineRoom}
 use Rattle.script.specs.Pieces.{CallIs, Answers}
 use Rattle.script.specs.declared.Pending.{Pending}
 use Rattle.script.specs.declared.answers.Answer.{Answer}
+use Rattle.script.specs.declared.reading.Goals.{Goals}
 use Rattle.script.specs.declared.reading.Call.{Call}
-use Rattle.script.specs.declared.reading.Call.the-variants.{Text, Check}
+use Rattle.script.specs.declared.reading.Call.the-variants.{Text, Page, Check}
 use Rattle.script.proofs.Calls.{kept-is}
 
 -- A line from a place on, as the code takes it.
@@ -26,6 +35,28 @@ text-inside line h e = subst (Inside line) e h
 
 pub check-inside : (line : List ℕ) {call : Call} {start end : ℕ} → Inside line call → call ≡ Check start end → (start ≤ end) × (end ≤ length line)
 check-inside line h e = subst (Inside line) e h
+
+pub page-inside : (line : List ℕ) {call : Call} {start : ℕ} → Inside line call → call ≡ Page start → (start ≤ length line) × ((gs : List ℕ) × (goalsIn (wordsOf (drop start line)) ≡ some gs))
+page-inside line h e = subst (Inside line) e h
+
+-- A page of the goals that were read.
+module _ (line : List ℕ) (start : ℕ) (gs : List ℕ) (goals : Goals) (h : GoalsRead (goalsIn (wordsOf (drop start line))) goals) (e : goalsIn (wordsOf (drop start line)) ≡ some gs) where
+  goals-are : GoalsAre gs goals
+  goals-are = subst (λ (o : Option (List ℕ)). GoalsRead o goals) e h
+
+  pub goals-few : goals .count ≤ goalRoom
+  goals-few = omega (arith, goals-are .size)
+
+  pub page-made : {s : Session} {lent : Records} {p : Paged} {entry exit : List ℕ} {n : ℕ}
+      → (lent .count ≡ goals .count) × (goalsOf (recordsOf lent) ≡ take (goals .count) (goals .rows)) → PagedAs s lent p
+      → Appends (pageLines (p .changed .refusal) (recordsOf (p .records))) entry 0 exit n
+      → Writes (CommandDone s (callBook (page gs))) entry exit (record { session = p .changed .session; length = n })
+  page-made {lent = lent} {p} l a w =
+      (_, (recordsOf lent, l .1 ∙ goals-are .first, record { changed = p .changed; records = recordsOf (p .records) }, a .answered, refl, refl), w)
+
+pub page-done : (line : List ℕ) (start : ℕ) (gs : List ℕ) → goalsIn (wordsOf (drop start line)) ≡ some gs → (number : ℕ) {s : Session} {entry exit : List ℕ} {r : Answer} → Writes (CommandDone s (callBook (page gs))) entry exit r
+    → Writes (LineDone s number (meaning line (Page start))) entry exit r
+page-done line start gs e number {s} {entry} {exit} {r} w = subst (λ (o : Option (List ℕ)). Writes (LineDone s number (pageOf o)) entry exit r) (sym e) w
 
 -- The call of what is kept of a line is known, and was made.
 module _ {s : Session} {number : ℕ} {p : Pending} {entry exit : List ℕ} (buffer : List ℕ) (call known : Call) (n room : ℕ) (r : Answer)

@@ -3,21 +3,30 @@ use mathlib.Core.Bool.{false, cond}
 use mathlib.Core.List.{List}
 use mathlib.Core.Option.{Option, none}
 use mathlib.Core.Path.{_≡_, refl, sym, ap, _∙_, subst}
-use Prim.Native.Nat.{ℕ}
+use Prim.Native.Nat.{ℕ, _<_}
 use native.Mathlib.Decide.{decLe}
 use native.Mathlib.Omega.{arith}
 use lib.Dec.{eqb}
+use lib.ListN.{length, take, length-take}
+use lib.Seq.{take-all}
+use borrow.Author.Tests.{eq-eqb, ne-eqb, lt-leb}
 use Rattle.ipl.specs.Search.{Outcome, valid, refuted, refused, unfinished}
 use Rattle.ipl.specs.Book as B
-use Rattle.ipl.specs.Book.{Book, addFlat, addImplication, Call, add, question, setMark, returnTo, opened, additionRefusal, refusal, taken, answer}
+use Rattle.ipl.specs.Page.{goalTable}
+use Rattle.ipl.specs.Book.{Book, addFlat, addImplication, Call, add, question, setMark, returnTo, page, opened, additionRefusal, pageRefusal, refusal, taken, answer}
 use Rattle.ipl.proofs.Book.{Reached, opened-reached}
 use Rattle.prover.specs.State.{book}
 use Rattle.prover.specs.Calls.{number, NothingHeld, VerdictKept, Opened, Changes, Asked, AskedAs}
+use Rattle.prover.specs.Page.{goalsOf, PageAnswered}
 use Rattle.prover.specs.Demand as made
+use Rattle.prover.specs.Demand.{questionsAfter, PageReturned, PageIs}
 use Rattle.prover.specs.declared.Session.{Session}
 use Rattle.prover.specs.declared.Changed.{Changed}
 use Rattle.prover.specs.declared.Answered.{Answered}
-use Rattle.prover.proofs.DemandThree.{ByBook, dropped-kept, set-kept, asked-as, call-kept}
+use Rattle.prover.specs.declared.GoalRecord.{GoalRecord}
+use Rattle.prover.proofs.Keeping.{ByBook, dropped-kept, set-kept, asked-as}
+use Rattle.prover.proofs.PageRuns.{page-answer, page-kept, page-unchanged}
+use Rattle.prover.proofs.DemandThree.{call-kept}
 use Rattle.syntax.specs.Refusal.{Refused, line-1, line-2, line-3, line-4}
 use Rattle.syntax.specs.Judge as text
 use Rattle.syntax.proofs.Judge.{judge-right}
@@ -27,12 +36,14 @@ use Rattle.clausify.specs.declared.Clausified.{Clausified}
 use Rattle.clausify.proofs.TextBook.{text-reached}
 use Rattle.certify.specs.Held.{Certificate, certificateHeld}
 use Rattle.certify.specs.Written.{lengthTold}
-use Rattle.certify.proofs.DemandTwo.{Standing, nothing-stands, dropped, mark-set, called}
+use Rattle.certify.proofs.DemandTwo.{Standing, nothing-stands, dropped, mark-set, page-stands, called}
 use Rattle.report.specs.Report.{reportBy}
 use Rattle.report.proofs.Printed.{answer-printed}
 use Rattle.script.specs.Command.{Command, openSession, readText, callBook, tellLength, writeSheet, checkSheet, Line, silent, command, noCall}
-use Rattle.script.specs.State.{State, fresh, questionsAfter, next, changedLine, textLine, lengthLine, printedCall, printedCommand, printedLine, nextLine}
-use Rattle.script.specs.Answer.{clausifiedLine, heldLine, CallDone, CommandDone, LineDone}
+use Rattle.script.specs.State.{State, fresh, totalFor, next, changedLine, textLine, lengthLine, printedCall, printedCommand, printedLine, nextLine}
+use Rattle.script.specs.Reading.{goalRoom}
+use Rattle.script.specs.Answer.{clausifiedLine, heldLine, pageLines, CallDone, CommandDone, LineDone}
+use Rattle.script.proofs.PageLines.{records-lines}
 
 -- The state that a session is.
 abbrev pub stateOf : Session → State
@@ -132,6 +143,53 @@ module _ (s : Session) (h : Stands s) where
       reaches (answer-printed s g r (answer (book s) g) asked) (kept .0) (asked-total s g r (answer (book s) g) asked)
       (called s (certificateHeld s (s .held)) h (made.question g) r a)
 
+  -- A page of goals that all fit in it, and one of more.
+  module _ (xs : List GoalRecord) (r : PageReturned) (m : PageAnswered s xs (r .records) (r .changed)) where
+    abbrev told : ℕ
+    told = refusal (book s) (page (goalsOf xs))
+
+    answered-so : PageIs (book s) s xs r
+    answered-so = page-answer s (h .in-range) (h .reached) xs r m
+
+    page-total : r .changed .session .total ≡ totalFor (stateOf s) (page (goalsOf xs))
+    page-total = elim (decLe told 0) [
+      | yes l ↦ let e : told ≡ 0 = omega arith in answered-so .total e ∙ rw (eq-eqb told 0 e)
+      | no l ↦
+          let d : told ≡ 0 → ⊥ = λ e. omega arith in
+          ap (λ (u : Session). u .total) (page-unchanged s (h .in-range) (h .reached) xs r m d .0) ∙ rw (ne-eqb told 0 d)
+    ]
+
+    page-printed : pageLines (r .changed .refusal) (r .records) ≡ printedCall (stateOf s) (page (goalsOf xs))
+    page-printed = elim (decLe told 0) [
+      | yes l ↦ let e : told ≡ 0 = omega arith in rw (answered-so .number, eq-eqb told 0 e) (records-lines 0 (answered-so .records e))
+      | no l ↦ rw (answered-so .number, ne-eqb told 0 (λ e. omega arith))
+    ]
+
+    page-reaches : Reaches (next (stateOf s) (callBook (page (goalsOf xs)))) (printedCall (stateOf s) (page (goalsOf xs))) (r .changed .session) (pageLines (r .changed .refusal) (r .records))
+    page-reaches = reaches page-printed (page-kept s (h .in-range) (h .reached) xs r m .0) page-total (page-stands s x h xs r m)
+
+  too-many : (gs : List ℕ) → goalTable < length gs → refusal (book s) (page gs) ≡ 19
+  unfolding refusal pageRefusal
+  too-many gs many = rw (lt-leb (length gs) goalTable many)
+
+  page-refused : (gs : List ℕ) → goalTable < length gs → (xs : List GoalRecord) (r : PageReturned) (m : PageAnswered s xs (r .records) (r .changed)) → goalsOf xs ≡ take goalRoom gs
+      → Reaches (next (stateOf s) (callBook (page gs))) (printedCall (stateOf s) (page gs)) (r .changed .session) (pageLines (r .changed .refusal) (r .records))
+  unfolding B.next
+  page-refused gs many xs r m lent =
+      let lent-many : goalTable < length (goalsOf xs) = omega (arith, many, ap length lent, length-take goalRoom gs) in
+      let d : refusal (book s) (page (goalsOf xs)) ≡ 0 → ⊥ = λ e. omega (arith, e, too-many (goalsOf xs) lent-many) in
+      let same = page-unchanged s (h .in-range) (h .reached) xs r m d .0 in
+      rw (answered-so xs r m .number, too-many (goalsOf xs) lent-many, too-many gs many, same) (record { prints = refl; state = refl; stands = h })
+
+  pages-reach : (gs : List ℕ) (xs : List GoalRecord) → goalsOf xs ≡ take goalRoom gs → (r : PageReturned) (m : PageAnswered s xs (r .records) (r .changed))
+      → Reaches (next (stateOf s) (callBook (page gs))) (printedCall (stateOf s) (page gs)) (r .changed .session) (pageLines (r .changed .refusal) (r .records))
+  pages-reach gs xs lent r m = elim (decLe (length gs) goalTable) [
+    | yes few ↦
+        subst (λ (gs : List ℕ). Reaches (next (stateOf s) (callBook (page gs))) (printedCall (stateOf s) (page gs)) (r .changed .session) (pageLines (r .changed .refusal) (r .records)))
+        (lent ∙ take-all goalRoom gs (omega (arith, few))) (page-reaches xs r m)
+    | no many ↦ page-refused gs (omega arith) xs r m lent
+  ]
+
   -- ---- sheets
 
   told-line : lengthLine (lengthTold s) ≡ printedCommand (stateOf s) tellLength
@@ -150,6 +208,7 @@ module _ (s : Session) (h : Stands s) where
     call-reaches (question g) (r, a, e, p) = same-reached e p (asked-reaches g r a)
     call-reaches (setMark j) (r, a, e, p) = same-reached e p (set-reaches j r a)
     call-reaches (returnTo j) (r, a, e, p) = same-reached e p (dropped-reaches (returnTo j) r a)
+    call-reaches (page gs) (xs, lent, r, a, e, p) = same-reached e p (pages-reach gs xs lent r a)
 
     unchanged : {text : List ℕ} → after ≡ s → printed ≡ text → Reaches (stateOf s) text after printed
     unchanged e p = record { prints = p; state = ap stateOf e; stands = subst Stands (sym e) h }

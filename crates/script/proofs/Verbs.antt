@@ -9,7 +9,7 @@ use Rattle.atoms.proofs.Truth.{T-left, T-right, T-false, true-T, by-cond}
 use Rattle.text.specs.Text.{ascii}
 use Rattle.script.specs.Command.{same, verbOf}
 use Rattle.script.specs.declared.reading.Verb.{Verb}
-use Rattle.script.specs.declared.reading.Verb.the-variants.{Open, Text, Flat, Implication, Ask, Mark, Return, Length, Sheet, Check, Other}
+use Rattle.script.specs.declared.reading.Verb.the-variants.{Open, Text, Flat, Implication, Ask, Page, Mark, Return, Length, Sheet, Check, Other}
 
 same-is : (l m : List ℕ) → T (same l m) → l ≡ m
 unfolding same
@@ -29,6 +29,7 @@ Named w Text = w ≡ ascii "text"
 Named w Flat = w ≡ ascii "flat"
 Named w Implication = w ≡ ascii "implication"
 Named w Ask = w ≡ ascii "ask"
+Named w Page = w ≡ ascii "page"
 Named w Mark = w ≡ ascii "mark"
 Named w Return = w ≡ ascii "return"
 Named w Length = w ≡ ascii "length"
@@ -47,4 +48,5 @@ module _ (w : List ℕ) where
       (either _ _ _ (λ e. e)
       (either _ _ _ (λ e. e)
       (either _ _ _ (λ e. e)
-      (either _ _ _ (λ e. e) (either _ _ _ (λ e. e) (either _ _ _ (λ e. e) (either _ _ _ (λ e. e) (either _ _ _ (λ e. e) (either _ _ _ (λ e. e) tt)))))))))
+      (either _ _ _ (λ e. e)
+      (either _ _ _ (λ e. e) (either _ _ _ (λ e. e) (either _ _ _ (λ e. e) (either _ _ _ (λ e. e) (either _ _ _ (λ e. e) (either _ _ _ (λ e. e) tt))))))))))

@@ -1,18 +1,18 @@
 -- From a line's bytes to a call.
 use mathlib.Core.Bool.{Bool, true, false, cond, _&&_, _||_}
 use mathlib.Core.List.{List, [], _∷_}
-use mathlib.Core.Option.{Option, none, some, bind}
+use mathlib.Core.Option.{Option, none, some, bind, Option·map}
 use Prim.Native.Nat.{ℕ, _^_}
 use lib.Dec.{eqb, leb}
 use lib.ListN.{length, drop}
 use Rattle.atoms.specs.Sets.{limit}
 use Rattle.ipl.specs.Lists.{all}
-use Rattle.ipl.specs.Book.{addFlat, addImplication, Call, add, question, setMark, returnTo}
+use Rattle.ipl.specs.Book.{addFlat, addImplication, Call, add, question, setMark, returnTo, page}
 use Rattle.text.specs.Text.{ascii}
 use Rattle.script.specs.Words.{space, wordsOf, unindented}
 use Rattle.script.specs.Numbers.{numberBelow, bytesIn}
 use Rattle.script.specs.declared.reading.Verb.{Verb}
-use Rattle.script.specs.declared.reading.Verb.the-variants.{Open, Text, Flat, Implication, Ask, Mark, Return, Length, Sheet, Check, Other}
+use Rattle.script.specs.declared.reading.Verb.the-variants.{Open, Text, Flat, Implication, Ask, Page, Mark, Return, Length, Sheet, Check, Other}
 
 -- What a line asks for: the calls of the book, and those beside them.
 pub data Command : Type 0 where
@@ -44,9 +44,10 @@ verbOf w =
     (cond (same w (ascii "flat")) Flat
     (cond (same w (ascii "implication")) Implication
     (cond (same w (ascii "ask")) Ask
+    (cond (same w (ascii "page")) Page
     (cond (same w (ascii "mark")) Mark
     (cond (same w (ascii "return")) Return
-    (cond (same w (ascii "length")) Length (cond (same w (ascii "sheet")) Sheet (cond (same w (ascii "check")) Check Other)))))))))
+    (cond (same w (ascii "length")) Length (cond (same w (ascii "sheet")) Sheet (cond (same w (ascii "check")) Check Other))))))))))
 
 -- "One over 255 where a byte belongs, or a set over 2^64 - 1, is no number."
 abbrev pub byteIn : List ℕ → Option ℕ
@@ -67,6 +68,11 @@ abbrev pub end : Command → List (List ℕ) → Option Command
 end c [] = some c
 end c (w ∷ ws) = none
 
+-- "Any number of goals may stand in a line."
+abbrev pub goalsIn : List (List ℕ) → Option (List ℕ)
+goalsIn [] = some []
+goalsIn (w ∷ ws) = bind (byteIn w) (λ g. Option·map (λ gs. g ∷ gs) (goalsIn ws))
+
 -- "None at all is the empty sheet."
 abbrev pub sheetArgument : List (List ℕ) → Option Command
 sheetArgument [] = some (checkSheet [])
@@ -81,6 +87,7 @@ commandBy Flat rest ws = argument setIn (λ left. argument setIn (λ right. end 
 commandBy Implication rest ws =
     argument byteIn (λ a. argument byteIn (λ b. argument byteIn (λ c. end (callBook (add (addImplication (record { a = a; b = b; c = c }))))))) ws
 commandBy Ask rest ws = argument byteIn (λ g. end (callBook (question g))) ws
+commandBy Page rest ws = Option·map (λ gs. callBook (page gs)) (goalsIn ws)
 commandBy Mark rest ws = argument byteIn (λ j. end (callBook (setMark j))) ws
 commandBy Return rest ws = argument byteIn (λ j. end (callBook (returnTo j))) ws
 commandBy Length rest ws = end tellLength ws

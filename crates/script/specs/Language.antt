@@ -6,10 +6,10 @@ use mathlib.Core.Path.{_≡_}
 use Prim.Native.Nat.{ℕ, _≤_, _<_}
 use lib.ListN.{length, replicate}
 use Rattle.ipl.specs.Lists.{All}
-use Rattle.ipl.specs.Book.{addFlat, addImplication, add, question, setMark, returnTo}
+use Rattle.ipl.specs.Book.{addFlat, addImplication, add, question, setMark, returnTo, page}
 use Rattle.text.specs.Text.{ascii, hex}
 use Rattle.script.specs.Words.{space, wordsOf}
-use Rattle.script.specs.Command.{Command, openSession, readText, callBook, tellLength, writeSheet, checkSheet, byteIn, setIn, command, longestCall, lineOf}
+use Rattle.script.specs.Command.{Command, openSession, readText, callBook, tellLength, writeSheet, checkSheet, byteIn, setIn, goalsIn, command, longestCall, lineOf}
 
 -- The line is this call.
 pub data Says (line : List ℕ) : Command → Type 0 where
@@ -26,6 +26,8 @@ pub data Says (line : List ℕ) : Command → Type 0 where
       → Says line (callBook (add (addImplication (record { a = a; b = b; c = c }))))
   -- `ask G`
   asks : (G : List ℕ) (g : ℕ) → wordsOf line ≡ ascii "ask" ∷ G ∷ [] → byteIn G ≡ some g → Says line (callBook (question g))
+  -- `page G1 G2 ..`
+  pages : (G : List (List ℕ)) (gs : List ℕ) → wordsOf line ≡ ascii "page" ∷ G → goalsIn G ≡ some gs → Says line (callBook (page gs))
   -- `mark K`, `return K`
   sets-mark : (K : List ℕ) (j : ℕ) → wordsOf line ≡ ascii "mark" ∷ K ∷ [] → byteIn K ≡ some j → Says line (callBook (setMark j))
   returns-to : (K : List ℕ) (j : ℕ) → wordsOf line ≡ ascii "return" ∷ K ∷ [] → byteIn K ≡ some j → Says line (callBook (returnTo j))

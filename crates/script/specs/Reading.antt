@@ -1,20 +1,39 @@
 -- The contract of the reading of a line.
-use mathlib.Core.Bool.{Bool, cond}
+use mathlib.Core.Bool.{Bool, true, false, cond}
 use mathlib.Core.List.{List}
-use mathlib.Core.Option.{none, some, Option·map}
+use mathlib.Core.Option.{Option, none, some, Option·map}
 use mathlib.Core.Path.{_≡_}
-use Prim.Native.Nat.{ℕ, _≤_}
-use lib.ListN.{length, drop}
-use Rattle.ipl.specs.Book.{addFlat, addImplication, add, question, setMark, returnTo}
+use Prim.Native.Nat.{ℕ, _+_, _≤_, min}
+use lib.ListN.{length, take, drop}
+use Rattle.ipl.specs.Page.{goalTable}
+use Rattle.ipl.specs.Book.{addFlat, addImplication, add, question, setMark, returnTo, page}
 use Rattle.prover.specs.Calls.{flatOf}
 use Rattle.script.specs.Numbers.{paired}
 use Rattle.script.specs.Words.{wordsOf}
-use Rattle.script.specs.Command.{Command, Line, silent, command, noCall, openSession, readText, callBook, tellLength, writeSheet, checkSheet, byteIn, argument, end, commandBy, orNone, lineOf}
+use Rattle.script.specs.Command.{Command, Line, silent, command, noCall, openSession, readText, callBook, tellLength, writeSheet, checkSheet, byteIn, argument, end, goalsIn, commandBy, orNone, lineOf}
 use Rattle.script.specs.Places.{between, byteOf}
 use Rattle.script.specs.declared.numbers.Byte.{Byte}
+use Rattle.script.specs.declared.reading.Goals.{Goals}
 use Rattle.script.specs.declared.reading.Verb.{Verb}
 use Rattle.script.specs.declared.reading.Call.{Call}
 use Rattle.script.specs.declared.reading.Call.the-variants as code
+
+-- The goals of a page that a line is; one more than a page may have are enough of them to tell that they are too many.
+abbrev pub goalRoom : ℕ
+goalRoom = goalTable + 1
+
+pub record GoalsAre (gs : List ℕ) (t : Goals) : Type 0 where
+  pub complete : t .complete ≡ true
+  pub size : t .count ≡ min (length gs) goalRoom
+  pub first : take (t .count) (t .rows) ≡ take goalRoom gs
+
+-- Every word is a goal, and these are they; or some word is none.
+abbrev pub GoalsRead : Option (List ℕ) → Goals → Type 0
+GoalsRead none t = t .complete ≡ false
+GoalsRead (some gs) t = GoalsAre gs t
+
+abbrev pub pageOf : Option (List ℕ) → Line
+pageOf gs = orNone (Option·map (λ gs. callBook (page gs)) gs)
 
 -- What a value of the code says of a line: a text starts at a place, a sheet's digits stand between two places.
 abbrev pub meaning : List ℕ → Call → Line
@@ -25,6 +44,7 @@ meaning line (code.Text start) = command (readText (drop start line))
 meaning line (code.Flat left right) = command (callBook (add (addFlat (flatOf left right))))
 meaning line (code.Implication a b c) = command (callBook (add (addImplication (record { a = a; b = b; c = c }))))
 meaning line (code.Ask g) = command (callBook (question g))
+meaning line (code.Page start) = pageOf (goalsIn (wordsOf (drop start line)))
 meaning line (code.Mark j) = command (callBook (setMark j))
 meaning line (code.Return j) = command (callBook (returnTo j))
 meaning line code.Length = command tellLength
@@ -40,6 +60,7 @@ Inside line (code.Text start) = start ≤ length line
 Inside line (code.Flat left right) = Unit {0}
 Inside line (code.Implication a b c) = Unit {0}
 Inside line (code.Ask g) = Unit {0}
+Inside line (code.Page start) = (start ≤ length line) × ((gs : List ℕ) × (goalsIn (wordsOf (drop start line)) ≡ some gs))
 Inside line (code.Mark j) = Unit {0}
 Inside line (code.Return j) = Unit {0}
 Inside line code.Length = Unit {0}

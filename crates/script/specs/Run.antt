@@ -16,7 +16,7 @@ use Rattle.script.specs.declared.answers.Answer.{Answer}
 
 -- Room for every answer.
 abbrev pub outputRoom : ℕ
-outputRoom = 32768
+outputRoom = 524288
 
 -- No byte of a line has come yet.
 abbrev pub noLine : Pending

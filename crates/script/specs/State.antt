@@ -1,13 +1,15 @@
 -- What a script has come to, and what each call makes of it and prints: through the book.
 use mathlib.Core.Bool.{false, cond}
-use mathlib.Core.List.{List, [], _++_}
+use mathlib.Core.List.{List, [], _∷_, _++_}
 use mathlib.Core.Option.{Option, none, some}
-use Prim.Native.Nat.{ℕ}
+use Prim.Native.Nat.{ℕ, suc}
 use lib.Dec.{eqb}
+use lib.ListN.{length}
 use Rattle.ipl.specs.Search.{Outcome, valid, refuted, refused, unfinished}
 use Rattle.ipl.specs.Book as B
-use Rattle.ipl.specs.Book.{Book, Call, add, question, setMark, returnTo, opened, openRefusal, refusal, answer}
-use Rattle.prover.specs.Calls.{totalAfter}
+use Rattle.ipl.specs.Page.{Entry, searched, refutedBy}
+use Rattle.ipl.specs.Book.{Book, Call, add, question, setMark, returnTo, page, opened, openRefusal, refusal, answer, entries}
+use Rattle.prover.specs.Demand.{questionsAfter, pageTotal}
 use Rattle.syntax.specs.Judge as text
 use Rattle.clausify.specs.Naming.{goalOf}
 use Rattle.clausify.specs.Demand.{bookOf}
@@ -17,10 +19,12 @@ use Rattle.certify.specs.Written.{toldOf}
 use Rattle.certify.specs.Demand.{keeps}
 use Rattle.certify.specs.declared.Length.{Length}
 use Rattle.certify.specs.declared.Length.the-variants.{Bytes, Refused}
+use Prim.Native.String.{String}
 use Rattle.text.specs.Text as T
 use Rattle.text.specs.Text.{ascii, labelled, hex}
 use Rattle.judgement.specs.Report.{checkReport}
-use Rattle.report.specs.Report.{textRefusal}
+use Rattle.certificate.specs.Format.{each}
+use Rattle.report.specs.Report.{worldLine, textRefusal}
 use Rattle.report.specs.Printed.{printedEnd}
 use Rattle.script.specs.Command.{Command, openSession, readText, callBook, tellLength, writeSheet, checkSheet, Line, silent, command, noCall}
 
@@ -36,18 +40,13 @@ fresh k = record { book = k; questions = 0; answered = none }
 
 -- ---- what a call makes of it
 
-abbrev pub questionsAfter : ℕ → Outcome → ℕ
-questionsAfter total (valid end) = totalAfter total (end .questions)
-questionsAfter total (refuted end) = totalAfter total (end .questions)
-questionsAfter total (refused number) = total
-questionsAfter total unfinished = total
-
 -- "Only what is asked is counted."
 abbrev pub totalFor : State → Call → ℕ
 totalFor σ (add a) = σ .questions
 totalFor σ (question g) = questionsAfter (σ .questions) (answer (σ .book) g)
 totalFor σ (setMark j) = σ .questions
 totalFor σ (returnTo j) = σ .questions
+totalFor σ (page gs) = cond (eqb (refusal (σ .book) (page gs)) 0) (pageTotal (σ .questions) (entries (σ .book) gs)) (σ .questions)
 
 abbrev pub next : State → Command → State
 next σ (openSession n) = fresh (opened n)
@@ -88,11 +87,31 @@ abbrev pub sheetLine : Option Certificate → List ℕ
 sheetLine none = refusedLine 9
 sheetLine (some x) = digitsLine (bytesOf x)
 
+-- "`goal I valid S`, or `goal I refuted W` and its `world` lines, or `goal I refuted by J`, or `goal I refused K`."
+abbrev pub figuredLine : ℕ → String → ℕ → List ℕ
+figuredLine i label figure = labelled "goal " i ++ labelled label figure ++ ascii "\n"
+
+abbrev pub outcomeLines : ℕ → Outcome → List ℕ
+outcomeLines i (valid end) = figuredLine i " valid " (length (end .steps))
+outcomeLines i (refuted end) = figuredLine i " refuted " (length (end .worlds)) ++ each worldLine (end .worlds)
+outcomeLines i (refused number) = figuredLine i " refused " number
+outcomeLines i unfinished = []
+
+abbrev pub entryLines : ℕ → Entry → List ℕ
+entryLines i (searched o) = outcomeLines i o
+entryLines i (refutedBy j) = figuredLine i " refuted by " j
+
+-- Of the goals from the place i on.
+abbrev pub entriesLines : ℕ → List Entry → List ℕ
+entriesLines i [] = []
+entriesLines i (e ∷ es) = entryLines i e ++ entriesLines (suc i) es
+
 abbrev pub printedCall : State → Call → List ℕ
 printedCall σ (add a) = changedLine (refusal (σ .book) (add a))
 printedCall σ (question g) = printedEnd (σ .book .n) (σ .questions) (answer (σ .book) g)
 printedCall σ (setMark j) = changedLine (refusal (σ .book) (setMark j))
 printedCall σ (returnTo j) = changedLine (refusal (σ .book) (returnTo j))
+printedCall σ (page gs) = cond (eqb (refusal (σ .book) (page gs)) 0) (entriesLines 0 (entries (σ .book) gs)) (refusedLine (refusal (σ .book) (page gs)))
 
 abbrev pub printedCommand : State → Command → List ℕ
 printedCommand σ (openSession n) = changedLine (openRefusal n)

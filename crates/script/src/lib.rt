@@ -19,7 +19,7 @@ pub use answers::answer_line;
 pub const LINE: usize = reading::MOST_BYTES + 1;
 
 // Room for every answer.
-pub const OUTPUT: usize = 32768;
+pub const OUTPUT: usize = 524288;
 
 // The line that has begun: how many of its bytes are kept, and whether all that came are spaces.
 pub struct Pending {

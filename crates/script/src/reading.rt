@@ -3,12 +3,14 @@ use super::numbers;
 use super::numbers::Byte;
 use super::words;
 use atoms::AtomSet;
+ghost use mathlib.Core.List.{List, [], _∷_, _++_};
 ghost use mathlib.Core.Path.{_≡_};
-ghost use Prim.Native.Nat.{_≤_};
-ghost use lib.ListN.{length};
-ghost use Rattle.script.specs.Command.{byteIn, setIn, verbOf};
+ghost use Prim.Native.Nat.{ℕ, _≤_};
+ghost use lib.ListN.{length, drop};
+ghost use Rattle.script.specs.Words.{wordsOf};
+ghost use Rattle.script.specs.Command.{byteIn, setIn, goalsIn, verbOf};
 ghost use Rattle.script.specs.Places.{byteTaken, setTaken, Takes};
-ghost use Rattle.script.specs.Reading.{OneByte, IsLast, Completes, Arguments, ReadAs};
+ghost use Rattle.script.specs.Reading.{GoalsAre, GoalsRead, OneByte, IsLast, Completes, Arguments, ReadAs};
 
 // The most bytes of a call, without the byte 10 that ends its line.
 pub const MOST_BYTES: usize = 32768;
@@ -19,6 +21,7 @@ pub enum Verb {
     Flat,
     Implication,
     Ask,
+    Page,
     Mark,
     Return,
     Length,
@@ -27,7 +30,14 @@ pub enum Verb {
     Other,
 }
 
-// What a line asks for: a text starts at a place, a sheet's digits stand between two places.
+// The goals of a page: whether every word is one, and as many of them as there are rows, one more than a page may have.
+pub struct Goals {
+    pub complete: bool,
+    pub count: usize,
+    pub rows: [u8; ipl::GOALS + 1],
+}
+
+// What a line asks for: a text and the goals of a page start at a place, a sheet's digits stand between two places.
 pub enum Call {
     Silent,
     NoCall,
@@ -36,6 +46,7 @@ pub enum Call {
     Flat(AtomSet, AtomSet),
     Implication(u8, u8, u8),
     Ask(u8),
+    Page(usize),
     Mark(u8),
     Return(u8),
     Length,
@@ -71,6 +82,9 @@ fn verb_of(word: &[u8]) -> Verb
     }
     if check::same(word, b"ask") {
         return Verb::Ask;
+    }
+    if check::same(word, b"page") {
+        return Verb::Page;
     }
     if check::same(word, b"mark") {
         return Verb::Mark;
@@ -218,6 +232,57 @@ fn ask(line: &[u8], from: usize) -> Call
     }
 }
 
+// One goal more, where there is a row for it.
+fn with_goal(t: Goals, goal: u8) -> Goals
+    ensures { λ r. ⌜ ((gs : List ℕ) → GoalsAre gs t → GoalsAre (gs ++ (goal ∷ [])) r) ⌝ }
+{
+    let mut next = t;
+    let at = t.count;
+    if at < ipl::GOALS + 1 {
+        next.rows[at] = goal;
+        next.count = at + 1;
+    }
+    next
+}
+
+// The goals that start at a place of the line.
+pub fn read_goals(line: &[u8], from: usize) -> Goals
+    requires { ⌜ from ≤ length (now line) ⌝ }
+    ensures { λ r. ⌜ GoalsRead (goalsIn (wordsOf (drop from (now (line .entry))))) r ⌝ }
+{
+    let mut goals = Goals {
+        complete: true,
+        count: 0,
+        rows: [0; ipl::GOALS + 1],
+    };
+    let mut at = from;
+    loop {
+        let word = words::next(line, at);
+        let start = word.start;
+        let end = word.end;
+        if start == end {
+            return goals;
+        }
+        let Byte::Is(goal) = numbers::byte_in(&line[start..end]) else {
+            goals.complete = false;
+            return goals;
+        };
+        goals = with_goal(goals, goal);
+        at = end;
+    }
+}
+
+fn page(line: &[u8], from: usize) -> Call
+    requires { ⌜ from ≤ length (now line) ⌝ }
+    ensures { λ r. ⌜ Arguments Verb.Page (now (line .entry)) from r ⌝ }
+{
+    if read_goals(line, from).complete {
+        Call::Page(from)
+    } else {
+        Call::NoCall
+    }
+}
+
 fn mark(line: &[u8], from: usize) -> Call
     requires { ⌜ from ≤ length (now line) ⌝ }
     ensures { λ r. ⌜ Arguments Verb.Mark (now (line .entry)) from r ⌝ }
@@ -263,6 +328,7 @@ fn call_of(verb: Verb, line: &[u8], from: usize) -> Call
         Verb::Flat => flat(line, from),
         Verb::Implication => implication(line, from),
         Verb::Ask => ask(line, from),
+        Verb::Page => page(line, from),
         Verb::Mark => mark(line, from),
         Verb::Return => return_to(line, from),
         Verb::Length => if_last(line, from, Call::Length),

@@ -12,8 +12,8 @@ ghost use Rattle.script.specs.Run.{outputRoom, LinesAnswered, Through};
 // A script is read in pieces of at most so many bytes.
 const PIECE: usize = 65536;
 
-// Answers are held while there is room for one more.
-const ANSWERS: usize = 2 * script::OUTPUT;
+// Answers are held while there is room for one more: up to 32 KiB of them.
+const ANSWERS: usize = script::OUTPUT + 32768;
 
 // A script that is being read: its session, the line that has begun, and that line's number.
 struct Script {
@@ -39,8 +39,8 @@ fn write(output: &[u8]) -> bool {
     output.len() == 0 || streams::write(output)
 }
 
-// Whether the answers can wait for that to the line which begins at a place of the piece: there is room for it, and it is no question,
-// which can take long. Who sends a full piece ahead does not wait for a single answer.
+// Whether the answers can wait for that to the line which begins at a place of the piece: there is room for it, and it is no question
+// and no page, which can take long. Who sends a full piece ahead does not wait for a single answer.
 fn can_wait(piece: &[u8], at: usize, room: usize) -> bool
     ensures { λ r. ⌜ (r ≡ true → outputRoom ≤ room) ⌝ }
 {
@@ -51,7 +51,7 @@ fn can_wait(piece: &[u8], at: usize, room: usize) -> bool
     if n <= at || n == PIECE {
         return true;
     }
-    piece[at] != b'a' && piece[at] != b' '
+    piece[at] != b'a' && piece[at] != b'p' && piece[at] != b' '
 }
 
 // Answers lines of a piece, from a place on, one behind the other in the output, while the answers can wait.

@@ -20,7 +20,8 @@ use Rattle.prover.specs.Demand.{question}
 use Rattle.prover.specs.declared.Held.{Held}
 use Rattle.prover.specs.declared.Session.{Session}
 use Rattle.prover.specs.declared.Answered.{Answered}
-use Rattle.prover.proofs.DemandThree.{nothing-in-range, asked-as, call-kept}
+use Rattle.prover.proofs.Keeping.{nothing-in-range, asked-as}
+use Rattle.prover.proofs.DemandThree.{call-kept}
 use Rattle.syntax.specs.Judge as judgement
 use Rattle.syntax.specs.Judge.{Judgement, judge}
 use Rattle.clausify.specs.Naming.{textBook}

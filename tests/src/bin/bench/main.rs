@@ -1,9 +1,10 @@
 //! Times the proved library, the whole program `settle` and the second implementation side by side, formula by formula,
-//! and prints one table in milliseconds; then calls on a session beside scripts of them. The path of `settle` may be given
-//! as an argument.
+//! and prints one table in milliseconds; then calls on a session beside scripts of them, and pages of goals beside single
+//! questions. The path of `settle` may be given as an argument.
 
 mod calls;
 mod clock;
+mod pages;
 mod scripts;
 mod sets;
 
@@ -25,13 +26,15 @@ fn main() {
     println!("{:<30} {:>8} {figures} {figures} {figures}", "", "formulas");
     let sets =
         [("random, of the usual size", sets::usual_size(300)), ("ILTP", sets::iltp()), ("patterns", sets::patterns())];
-    for (name, formulas) in sets {
-        let times = timed(&program, &formulas);
-        let columns: Vec<String> = (0..3).map(|side| column(&times, side)).collect();
+    for (name, formulas) in &sets {
+        let times = timed(&program, formulas);
+        let columns = [0, 1, 2].map(|side| column(&Vec::from_iter(times.iter().map(|t| t[side]))));
         println!("{name:<30} {:>8} {}", formulas.len(), columns.join(" "));
     }
     println!();
     scripts::print_times();
+    println!();
+    pages::print_times(&sets);
 }
 
 /// For each formula and side the best of some turns; a turn is all formulas on one side after the other, so that a slow
@@ -62,9 +65,14 @@ fn run(program: &str, formula: &[u8]) -> Vec<u8> {
     program::run(program, &[], &[formula, b"\n"].concat()).stdout
 }
 
-fn column(times: &[[f64; 3]], side: usize) -> String {
-    let mut sorted: Vec<f64> = times.iter().map(|t| t[side]).collect();
+fn column(figures: &[f64]) -> String {
+    let [median, most, worst] = [50, 95, 100].map(|percent| at(percent, figures));
+    format!("{median:>8.3} {most:>8.3} {worst:>8.3}")
+}
+
+/// So many percent of the figures are at most this one.
+fn at(percent: usize, figures: &[f64]) -> f64 {
+    let mut sorted = figures.to_vec();
     sorted.sort_by(f64::total_cmp);
-    let at = |percent: usize| sorted[(sorted.len() - 1) * percent / 100];
-    format!("{:>8.3} {:>8.3} {:>8.3}", at(50), at(95), at(100))
+    sorted[(sorted.len() - 1) * percent / 100]
 }

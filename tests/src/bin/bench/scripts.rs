@@ -63,6 +63,18 @@ fn run(output: Stdio) {
     }
 }
 
+/// How long the program takes with a script, its answers thrown away.
+pub fn time_of(script: &str) -> Time {
+    fs::write(SCRIPT, script).expect("a script");
+    Time::of(Whose::Children, || run(Stdio::null()))
+}
+
+pub fn answers_to(script: &str) -> String {
+    fs::write(SCRIPT, script).expect("a script");
+    run(File::create(ANSWERS).expect("a file for the answers").into());
+    fs::read_to_string(ANSWERS).expect("the answers")
+}
+
 fn refused_lines() -> usize {
     let answers = fs::read_to_string(ANSWERS).expect("the answers");
     answers.lines().filter(|line| line.starts_with("refused")).count()

@@ -1,5 +1,6 @@
 //! Scripts too long to be stored.
 
+use outside::naming::{single, FALSE};
 use outside::report::{certified, settle_text};
 use outside::script::{hexadecimal, MOST_LINE_BYTES};
 use outside::texts::with_every_connective;
@@ -71,4 +72,22 @@ pub fn long_lines() -> Vec<u8> {
         }
     }
     script
+}
+
+/// Pages of about as many goals as a page or a line may have; then one where at most one of 32 atoms lacks at a root, which finds
+/// a model of 256 worlds for each of them, and has each goal a second time.
+pub fn long_pages() -> Vec<u8> {
+    let most = (MOST_LINE_BYTES - "page".len()) / " 0".len();
+    let counts = [0, 1, 63, 64, 65, 255, 256, 257, 320, most - 1, most, most + 1];
+    let mut script = counts.map(|count| format!("page{}\nlength\n", " 0".repeat(count))).concat();
+    script += "open 40\n";
+    for (a, b) in (0..32).flat_map(|b| (0..b).map(move |a| (a, b))) {
+        script += &format!("flat 0 {}\n", single(a) | single(b));
+    }
+    for atom in 32..40 {
+        script += &format!("implication {atom} {FALSE} {FALSE}\n");
+    }
+    let goals: String = (0..32).map(|goal| format!(" {goal}")).collect();
+    script += &format!("page{goals}{goals}\nsheet\n");
+    script.into_bytes()
 }

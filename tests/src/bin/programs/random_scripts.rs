@@ -5,26 +5,42 @@ use outside::random::{bytes_changed, formula, repeating, Random, Style};
 use outside::script::{hexadecimal, Dialogue};
 use outside::texts::{damaged, nested};
 use std::collections::BTreeMap;
+use std::iter;
 
 /// How often each kind of answer was met.
 pub type Tally = BTreeMap<String, usize>;
 
 /// All that a script can meet. Refusal 10 is of lent bytes, and a script lends none.
 pub fn kinds() -> Vec<String> {
-    const WORDS: [&str; 8] = ["nothing", "no call", "done", "goal", "length", "sheet", "valid", "refuted"];
-    let refused = (1..=18).filter(|&number| number != 10).map(|number| format!("refused {number}"));
+    const WORDS: [&str; 10] =
+        ["nothing", "no call", "done", "goal", "length", "sheet", "valid", "refuted", "page", "empty page"];
+    const ON_PAGES: [&str; 5] = ["valid", "refuted", "refuted by another", "refused 11", "refused 12"];
+    let refused = (1..=19).filter(|&number| number != 10).map(|number| format!("refused {number}"));
     let accepted = ["accepted valid", "accepted refuted"].map(String::from);
-    WORDS.map(String::from).into_iter().chain(accepted).chain(refused).collect()
+    let on_pages = ON_PAGES.map(|word| format!("on a page {word}"));
+    WORDS.map(String::from).into_iter().chain(accepted).chain(refused).chain(on_pages).collect()
 }
 
-fn kind(answer: &str) -> String {
+fn kind(line: &[u8], answer: &str) -> String {
     let words: Vec<&str> = answer.split_ascii_whitespace().collect();
     match words[..] {
+        [] if line.trim_ascii() == b"page" => "empty page".into(),
         [] => "nothing".into(),
         ["line", ..] => "no call".into(),
+        ["goal", _, _, ..] => "page".into(),
         [word @ ("accepted" | "refused"), which, ..] => format!("{word} {which}"),
         [word, ..] => word.into(),
     }
+}
+
+/// What each goal of a page met.
+fn kinds_on_page(answer: &str) -> impl Iterator<Item = String> + '_ {
+    answer.lines().filter_map(|line| match line.split(' ').collect::<Vec<_>>()[..] {
+        ["goal", _, "refuted", "by", _] => Some("on a page refuted by another".into()),
+        ["goal", _, "refused", number] => Some(format!("on a page refused {number}")),
+        ["goal", _, word, _] => Some(format!("on a page {word}")),
+        _ => None,
+    })
 }
 
 /// Writes a script line by line, and knows the session that the lines have made.
@@ -48,7 +64,9 @@ impl<'a> Author<'a> {
 
     fn write(&mut self, line: impl AsRef<[u8]>) -> String {
         let answer = self.dialogue.answer(line.as_ref());
-        *self.tally.entry(kind(&answer)).or_default() += 1;
+        for kind in iter::once(kind(line.as_ref(), &answer)).chain(kinds_on_page(&answer)) {
+            *self.tally.entry(kind).or_default() += 1;
+        }
         self.script.extend(line.as_ref());
         self.script.push(b'\n');
         if let Ok(sheet) = self.dialogue.session().sheet() {
@@ -74,11 +92,11 @@ impl<'a> Author<'a> {
         let atoms = 1 + self.random.below(4);
         self.write(format!("open {atoms}"));
         for _ in 0..700 {
-            let line = self.clause_or(&["ask", "mark"]);
+            let line = self.clause_or(&["ask", "page", "mark"]);
             self.write(line);
         }
         for _ in 0..300 {
-            let line = self.clause_or(&["ask", "mark", "return"]);
+            let line = self.clause_or(&["ask", "page", "mark", "return"]);
             self.write(line);
         }
     }
@@ -88,6 +106,7 @@ impl<'a> Author<'a> {
         match self.random.below(50) {
             0 => match *self.random.pick(calls) {
                 "ask" => self.question(),
+                "page" => self.page(),
                 word => self.mark(word),
             },
             1..=12 => self.implication(),
@@ -95,23 +114,42 @@ impl<'a> Author<'a> {
         }
     }
 
-    /// Marks, returns to them, and all that they remember, on one session of at most eight atoms, which never needs too many
-    /// worlds or steps.
+    /// Marks, returns to them, and all that they remember, with pages among it, on one session of at most eight atoms, which
+    /// never needs too many worlds or steps.
     pub fn marks(&mut self, count: usize) {
         let atoms = 1 + self.random.below(8);
         self.write(format!("open {atoms}"));
         for _ in 0..count {
-            let line = match self.random.below(12) {
+            let line = match self.random.below(14) {
                 0..=1 => self.mark("mark"),
                 2..=3 => self.mark("return"),
                 4..=5 => self.flat(),
                 6..=7 => self.implication(),
                 8..=9 => self.question(),
-                10 => self.random.pick(&["length", "sheet"]).to_string(),
+                10..=11 => self.page(),
+                12 => self.random.pick(&["length", "sheet"]).to_string(),
                 _ => format!("check {}", hexadecimal(&self.sheet)),
             };
             let answer = self.write(line);
-            assert!(!["refused 11\n", "refused 12\n"].contains(&&answer[..]), "over {atoms} atoms: {answer}");
+            let needs_too_many = |line: &str| line.ends_with("refused 11") || line.ends_with("refused 12");
+            assert!(!answer.lines().any(needs_too_many), "over {atoms} atoms: {answer}");
+        }
+    }
+
+    /// Pages on one session with choices between two atoms, so that models differ in their roots.
+    pub fn pages(&mut self, count: usize) {
+        let atoms = 3 + self.random.below(10);
+        self.write(format!("open {atoms}"));
+        for _ in 0..count {
+            let line = match self.random.below(14) {
+                0..=4 => format!("flat 0 {}", 1u64 << self.random.below(atoms) | 1 << self.random.below(atoms)),
+                5 => self.flat(),
+                6..=7 => self.implication(),
+                8..=11 => self.page(),
+                12 => self.random.pick(&["length", "sheet", "mark 0", "return 0"]).to_string(),
+                _ => self.question(),
+            };
+            self.write(line);
         }
     }
 
@@ -122,6 +160,8 @@ impl<'a> Author<'a> {
         for atom in 0..atoms {
             self.write(format!("implication {atom} {FALSE} {FALSE}"));
         }
+        let page = self.page();
+        self.write(page);
         self.calls(12, atoms, 20);
     }
 
@@ -140,6 +180,7 @@ impl<'a> Author<'a> {
         self.write(format!("flat {} {}", all_z | single(a), single(b)));
         self.write(format!("implication {a} {b} {c}"));
         self.write(format!("ask {c}"));
+        self.write(format!("page {c} 0 {b} {c} {FALSE}"));
         self.calls(6, 33, 20);
     }
 
@@ -152,7 +193,7 @@ impl<'a> Author<'a> {
         self.write(format!("open {atoms}"));
     }
 
-    /// A text, and mostly the question for its goal.
+    /// A text, and mostly the question for its goal or a page of all its atoms.
     fn text(&mut self) {
         let style = Style { letters: 4, connectives: b"&|>>=~", falsehood: 9, spaces: 9, bare: 2 };
         let text = match self.random.below(12) {
@@ -169,13 +210,16 @@ impl<'a> Author<'a> {
         };
         let without_ends = text.into_iter().filter(|&byte| byte != b'\n').collect();
         let answer = self.write([b"text ".to_vec(), without_ends].concat());
-        if let (Some(goal), false) = (answer.strip_prefix("goal "), self.random.one_in(4)) {
-            self.write(format!("ask {}", goal.trim_end()));
-        }
+        let Some(goal) = answer.strip_prefix("goal ") else { return };
+        match self.random.below(8) {
+            0..=1 => return,
+            2..=3 => self.write(self.page_of_all()),
+            _ => self.write(format!("ask {}", goal.trim_end())),
+        };
     }
 
     fn line(&mut self) -> Vec<u8> {
-        match self.random.below(27) {
+        match self.random.below(28) {
             0..=5 => self.flat().into(),
             6..=9 => self.implication().into(),
             10..=14 => self.question().into(),
@@ -185,6 +229,7 @@ impl<'a> Author<'a> {
             20 => self.random.pick(&["", "  ", "# ask 0", "#"]).as_bytes().into(),
             21 => self.mark("mark").into(),
             22 => self.mark("return").into(),
+            23 => self.page().into(),
             _ => self.damaged_line(),
         }
     }
@@ -202,6 +247,40 @@ impl<'a> Author<'a> {
     fn question(&mut self) -> String {
         let goal = self.atom(5);
         self.words("ask", &[goal])
+    }
+
+    /// Mostly few goals, seldom none or more than a page may have.
+    fn page(&mut self) -> String {
+        let count = match self.random.below(12) {
+            0 => 0,
+            1 => 60 + self.random.below(11),
+            2..=3 => 1 + self.random.below(70),
+            _ => 1 + self.random.below(8),
+        };
+        let mut goals = Vec::new();
+        for _ in 0..count {
+            goals.push(self.goal_after(&goals));
+        }
+        if count > 0 && self.random.one_in(10) {
+            goals[self.random.below(count)] = self.random.below(300) as u64;
+        }
+        self.words("page", &goals)
+    }
+
+    /// Every goal that the session has, which are too many where it has 64 atoms.
+    fn page_of_all(&self) -> String {
+        let atoms = (0..self.dialogue.session().atoms()).map(|atom| format!(" {atom}"));
+        format!("page{} {FALSE}", atoms.collect::<String>())
+    }
+
+    /// An atom of the session, at times one of those before, seldom false.
+    fn goal_after(&mut self, before: &[u64]) -> u64 {
+        let atoms = usize::from(self.dialogue.session().atoms());
+        match self.random.below(16) {
+            0 => FALSE.into(),
+            1..=3 if !before.is_empty() => *self.random.pick(before),
+            _ => self.random.below(atoms) as u64,
+        }
     }
 
     /// A call with one of the first marks, seldom with another number.
@@ -257,11 +336,12 @@ impl<'a> Author<'a> {
     /// A line with a byte changed, put in or taken out, or its end cut off.
     fn damaged_line(&mut self) -> Vec<u8> {
         const BYTES: &[u8] = b" 0129aA#-\t\r\x00\x80\xff";
-        let mut line = match self.random.below(5) {
+        let mut line = match self.random.below(6) {
             0 => self.flat(),
             1 => self.implication(),
             2 => self.question(),
             3 => self.mark("mark"),
+            4 => self.page(),
             _ => self.check(),
         }
         .into_bytes();

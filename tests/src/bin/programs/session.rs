@@ -1,6 +1,6 @@
 //! The program `session`: what it answers to stored, generated and random scripts, and in a dialogue.
 
-use crate::generated_scripts::{damaged_sheets, every_byte, long_lines, wrong_byte};
+use crate::generated_scripts::{damaged_sheets, every_byte, long_lines, long_pages, wrong_byte};
 use crate::random_scripts::{kinds, Author, Tally};
 use crate::{fail, printed};
 use outside::program::{run, run_in_pieces, writes, Conversation, SESSION};
@@ -35,6 +35,7 @@ pub fn compare(random: &mut Random) -> Scripts {
     scripts.answered("a wrong byte", &wrong_byte());
     scripts.answered("damaged sheets", &damaged_sheets());
     scripts.answered("long lines", &long_lines());
+    scripts.answered("long pages", &long_pages());
     scripts.dialogue();
     scripts.written_together();
     scripts.random(random);
@@ -82,6 +83,7 @@ impl Scripts {
         write(150, &|author, calls| author.calls(calls, 7, 50));
         write(130, &|author, calls| author.calls(calls, 64, 25));
         write(1_000, &|author, calls| author.marks(calls / 8));
+        write(300, &|author, calls| author.pages(calls / 8));
         write(8, &|author, _| author.full_tables());
         write(8, &|author, _| author.many_worlds());
         write(2, &|author, _| author.many_steps());

@@ -12,7 +12,7 @@ use Rattle.script.specs.Pieces.{Answers}
 use Rattle.script.specs.declared.answers.Answer.{Answer}
 use Rattle.script.specs.declared.reading.Call.{Call}
 use Rattle.script.proofs.Calls.{kept-short}
-use Rattle.script.proofs.Performing.{text-inside, check-inside, answered}
+use Rattle.script.proofs.Performing.{text-inside, page-inside, check-inside, page-done, answered}
 use borrow.Author.Needs.{needs}
 use native.Mathlib.Omega.{arith}
 use Rattle.script.proofs.answers.answer_line.Statement.{statement}
@@ -24,12 +24,15 @@ slice-aggregate-kept c = sym (length-take-le _ _ (omega (arith, c .before .least
 read-text-requires : tie.Need-read-text-requires
 read-text-requires c κs = let made = c .before .before in text-inside _ (made .before .before .kept-call .ensures .inside) (made .start .given .1)
 
+page-requires : tie.Need-page-requires
+page-requires c κs = let made = c .before .before in page-inside _ (made .before .before .kept-call .ensures .inside) (made .start2 .given .1)
+
 check-requires : tie.Need-check-requires
 check-requires c κs =
     let made = c .before .before in
     let read = made .before .before in
     let size = read .before .before in
-    let inside = check-inside _ (read .kept-call .ensures .inside) (made .start2 .given .1) in
+    let inside = check-inside _ (read .kept-call .ensures .inside) (made .start3 .given .1) in
     (inside .0, inside .1, kept-short _ _ _ (size .least2 .ensures ∙ ap (min (size .before .before .before .before .args .p .length)) (size .before .least .ensures)))
 
 -- The call that was read is known, and was made.
@@ -78,27 +81,37 @@ returns-7 c =
 returns-8 : tie.Need-returns-8
 returns-8 c =
     let known = c .before .before .before .before .before in
-    made (known .before .before) (known .number .given .1) (c .before .before .set-mark .ensures)
+    let read = known .before .before in
+    let size = read .before .before in
+    let args = size .before .before .before .before .args in
+    let goals = page-inside _ (read .kept-call .ensures .inside) (known .start2 .given .1) .1 in
+    made read (known .start2 .given .1)
+    (page-done (take (size .least2 .result) (args .line .now)) (known .start2 .given .0 .0) (goals .0) (goals .1) (args .number) (c .before .before .page .ensures (goals .0) (goals .1)))
 
 returns-9 : tie.Need-returns-9
 returns-9 c =
     let known = c .before .before .before .before .before in
-    made (known .before .before) (known .number2 .given .1) (c .before .before .return-to .ensures)
+    made (known .before .before) (known .number .given .1) (c .before .before .set-mark .ensures)
 
 returns-10 : tie.Need-returns-10
 returns-10 c =
-    let known = c .before .before .before .before in
-    made (known .before .before) (known .enum-told3 .given .1) (_, (refl, refl), c .before .before .write-length .ensures)
+    let known = c .before .before .before .before .before in
+    made (known .before .before) (known .number2 .given .1) (c .before .before .return-to .ensures)
 
 returns-11 : tie.Need-returns-11
 returns-11 c =
     let known = c .before .before .before .before in
-    made (known .before .before) (known .enum-told4 .given .1) (_, (refl, refl), c .before .before .write-sheet .ensures)
+    made (known .before .before) (known .enum-told3 .given .1) (_, (refl, refl), c .before .before .write-length .ensures)
 
 returns-12 : tie.Need-returns-12
 returns-12 c =
+    let known = c .before .before .before .before in
+    made (known .before .before) (known .enum-told4 .given .1) (_, (refl, refl), c .before .before .write-sheet .ensures)
+
+returns-13 : tie.Need-returns-13
+returns-13 c =
     let known = c .before .before .before .before .before in
-    made (known .before .before) (known .start2 .given .1) (_, (refl, refl), c .before .before .check .ensures)
+    made (known .before .before) (known .start3 .given .1) (_, (refl, refl), c .before .before .check .ensures)
 
 pub answer-line-spec : {M : Type 1} → statement M
 answer-line-spec =
@@ -123,6 +136,8 @@ answer-line-spec =
     (λ c κs. search needs)
     (λ c. search needs)
     (λ c κs. search needs)
+    (λ c. search needs)
+    page-requires
     (λ c. search needs)
     (λ c κs. search needs)
     (λ c. search needs)
@@ -155,4 +170,6 @@ answer-line-spec =
     (λ c. search needs)
     returns-11
     (λ c. search needs)
-    returns-12)
+    returns-12
+    (λ c. search needs)
+    returns-13)

@@ -21,24 +21,29 @@ returns-5 : tie.Need-returns-5
 returns-5 c = rw (c .before .enum-told5 .given .1) (c .ask .ensures)
 
 returns-6 : tie.Need-returns-6
-returns-6 c = rw (c .before .enum-told6 .given .1) (c .mark .ensures)
+returns-6 c = rw (c .before .enum-told6 .given .1) (c .page .ensures)
 
 returns-7 : tie.Need-returns-7
-returns-7 c = rw (c .before .enum-told7 .given .1) (c .return-to .ensures)
+returns-7 c = rw (c .before .enum-told7 .given .1) (c .mark .ensures)
 
 returns-8 : tie.Need-returns-8
-returns-8 c = rw (c .before .enum-told8 .given .1) (finished _ (c .if-last .ensures) refl tt)
+returns-8 c = rw (c .before .enum-told8 .given .1) (c .return-to .ensures)
 
 returns-9 : tie.Need-returns-9
-returns-9 c = rw (c .before .enum-told9 .given .1) (finished _ (c .if-last2 .ensures) refl tt)
+returns-9 c = rw (c .before .enum-told9 .given .1) (finished _ (c .if-last .ensures) refl tt)
 
 returns-10 : tie.Need-returns-10
-returns-10 c = rw (c .before .enum-told10 .given .1) (c .check-sheet .ensures)
+returns-10 c = rw (c .before .enum-told10 .given .1) (finished _ (c .if-last2 .ensures) refl tt)
+
+returns-11 : tie.Need-returns-11
+returns-11 c = rw (c .before .enum-told11 .given .1) (c .check-sheet .ensures)
 
 pub call-of-spec : {M : Type 1} → statement M
 call-of-spec =
     tie.close
     (tie.spec
+    (λ c. search needs)
+    (λ c κs. search needs)
     (λ c. search needs)
     (λ c κs. search needs)
     (λ c. search needs)
@@ -70,4 +75,5 @@ call-of-spec =
     returns-8
     returns-9
     returns-10
+    returns-11
     (λ c. search needs))

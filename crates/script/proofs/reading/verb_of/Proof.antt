@@ -48,9 +48,14 @@ unfolding verbOf same ascii
 returns-10 c = ap verbOf (sym (c .before .same10 .ensures .0 (c .if10 .taken)))
 
 returns-11 : tie.Need-returns-11
+unfolding verbOf same ascii
+returns-11 c = ap verbOf (sym (c .before .same11 .ensures .0 (c .if11 .taken)))
+
+returns-12 : tie.Need-returns-12
 unfolding verbOf ascii
-returns-11 c =
-    let t10 = c in
+returns-12 c =
+    let t11 = c in
+    let t10 = t11 .before .before .before in
     let t9 = t10 .before .before .before in
     let t8 = t9 .before .before .before in
     let t7 = t8 .before .before .before in
@@ -71,6 +76,7 @@ returns-11 c =
       unlike _ _ _ (t8 .before .same8 .ensures .1) (t8 .if8 .left),
       unlike _ _ _ (t9 .before .same9 .ensures .1) (t9 .if9 .left),
       unlike _ _ _ (t10 .before .same10 .ensures .1) (t10 .if10 .left),
+      unlike _ _ _ (t11 .before .same11 .ensures .1) (t11 .if11 .left),
     )
 
 pub verb-of-spec : {M : Type 1} → statement M
@@ -107,4 +113,7 @@ verb-of-spec =
     (λ c. search needs)
     (λ c κs. search needs)
     returns-10
-    returns-11)
+    (λ c. search needs)
+    (λ c κs. search needs)
+    returns-11
+    returns-12)

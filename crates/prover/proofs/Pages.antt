@@ -1,0 +1,60 @@
+-- Laws of a page, record by record.
+use mathlib.Core.List.{List, _++_, append-nil}
+use mathlib.Core.Option.{Option, none, some}
+use mathlib.Core.Path.{_≡_, refl, sym, ap, _∙_, subst}
+use Prim.Native.Nat.{ℕ, _+_, _≤_, _<_}
+use native.Mathlib.Omega.{arith}
+use lib.ListN.{length}
+use lib.Seq.{take-all}
+use Rattle.ipl.specs.Page.{goalTable, earliest}
+use Rattle.prover.specs.Calls.{Asked}
+use Rattle.prover.specs.Page.{withAnswer, recordAfter, foundIn, modelsOf, GoalBy, PageAnswered, recordsOf, PagedAs}
+use Rattle.prover.specs.Paging.{wentOn, RecordAnswered}
+use Rattle.prover.specs.declared.Session.{Session}
+use Rattle.prover.specs.declared.Answered.{Answered}
+use Rattle.prover.specs.declared.GoalAnswer.the-variants.{RefutedBy}
+use Rattle.prover.specs.declared.GoalRecord.{GoalRecord}
+use Rattle.prover.specs.declared.Records.{Records}
+use Rattle.prover.specs.declared.Paged.{Paged}
+use Rattle.prover.specs.declared.paging.Models.{Models}
+use Rattle.prover.specs.declared.paging.Page.{Page}
+
+-- ---- a goal is answered
+
+module _ (p : Page) (x y : GoalRecord) (q : Page) where
+  went-to : {s : Session} {M : Models} → q ≡ wentOn p s M → q ≡ wentOn p (q .session) M
+  went-to {s} {M} e = e ∙ ap (λ (s : Session). wentOn p s M) (sym (ap (λ (q : Page). q .session) e))
+
+  -- By the earliest model that lacks it.
+  pub answered-by-model : (j : ℕ) → some j ≡ earliest (x .goal) (modelsOf (p .models)) → y ≡ withAnswer x (RefutedBy j) → q ≡ wentOn p (p .session) (p .models)
+      → RecordAnswered p x (record { page = q; rec = y })
+  answered-by-model j found is went = record {
+    models = p .models;
+    done = subst (λ (o : Option ℕ). GoalBy o (p .session) x y (q .session)) found (is, ap (λ (q : Page). q .session) went);
+    found = sym (append-nil (modelsOf (p .models))) ∙ ap (λ (y : GoalRecord). modelsOf (p .models) ++ foundIn (p .at) y) (sym is);
+    few = omega arith;
+    page = went-to went;
+  }
+
+  -- By its own search.
+  pub answered-by-search : (a : Answered) (M : Models) → earliest (x .goal) (modelsOf (p .models)) ≡ none → Asked (p .session) (x .goal) a
+      → y ≡ recordAfter x (a .verdict) (a .session .worlds) → ((x : GoalRecord) → modelsOf M ≡ modelsOf (p .models) ++ foundIn (p .at) (recordAfter x (a .verdict) (a .session .worlds)))
+      → M .count ≤ p .models .count + 1 → q ≡ wentOn p (a .session) M → RecordAnswered p x (record { page = q; rec = y })
+  answered-by-search a M lacking asked is found few went = record {
+    models = M;
+    done = subst (λ (o : Option ℕ). GoalBy o (p .session) x y (q .session)) (sym lacking) (a, asked, is, ap (λ (q : Page). q .session) went);
+    found = found x ∙ ap (λ (y : GoalRecord). modelsOf (p .models) ++ foundIn (p .at) y) (sym is);
+    few = few;
+    page = went-to went;
+  }
+
+-- ---- records by value
+
+-- A count above that of the rows is taken for theirs.
+pub all-lent : (s : Session) (records : Records) (r : Paged) → goalTable + 1 < records .count → length (records .rows) ≡ goalTable + 1
+    → PagedAs s (record { count = goalTable + 1; rows = records .rows }) r → PagedAs s records r
+all-lent s records r many size h = record {
+  same-count = omega (arith, h .same-count, many);
+  answered = subst (λ (xs : List GoalRecord). PageAnswered s xs (recordsOf (r .records)) (r .changed))
+      (take-all (goalTable + 1) (records .rows) (omega (arith, size)) ∙ sym (take-all (records .count) (records .rows) (omega (arith, size, many)))) (h .answered);
+}

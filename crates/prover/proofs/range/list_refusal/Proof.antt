@@ -1,0 +1,23 @@
+-- 5, then 19.
+use borrow.Author.Tests.{le-leb, lt-leb, not-true, not-false}
+use mathlib.Core.Bool.{true}
+use mathlib.Core.Path.{_≡_, sym, _∙_}
+use Rattle.prover.specs.InRange.{inRange}
+use borrow.Author.Needs.{needs}
+use Rattle.prover.proofs.range.list_refusal.Statement.{statement}
+use Rattle.prover.proofs.range.list_refusal.Tie as tie
+
+session : (c : tie.Else1) → inRange (c .before .before .args .s) ≡ true
+session c = sym (c .before .in-range .ensures) ∙ not-false _ (c .if1 .left)
+
+returns : tie.Need-returns
+returns c = rw (sym (c .before .in-range .ensures) ∙ not-true _ (c .if1 .taken))
+
+returns-2 : tie.Need-returns-2
+returns-2 c = rw (session (c .before), le-leb _ _ (c .if2 .taken))
+
+returns-3 : tie.Need-returns-3
+returns-3 c = rw (session (c .before), lt-leb _ _ (c .if2 .left))
+
+pub list-refusal-spec : {M : Type 1} → statement M
+list-refusal-spec = tie.close (tie.spec (λ c κs. search needs) returns returns-2 returns-3)
