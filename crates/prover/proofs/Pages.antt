@@ -1,14 +1,19 @@
 -- Laws of a page, record by record.
-use mathlib.Core.List.{List, _++_, append-nil}
+use mathlib.Core.Bool.{Bool, true, false, cond}
+use mathlib.Core.List.{_++_, append-nil}
 use mathlib.Core.Option.{Option, none, some}
 use mathlib.Core.Path.{_≡_, refl, sym, ap, _∙_, subst}
 use Prim.Native.Nat.{ℕ, _+_, _≤_, _<_}
 use native.Mathlib.Omega.{arith}
-use lib.ListN.{length}
+use lib.Dec.{leb}
+use lib.ListN.{length, length-map}
 use lib.Seq.{take-all}
+use borrow.Author.Tests.{lt-leb}
 use Rattle.ipl.specs.Page.{goalTable, earliest}
+use Rattle.ipl.specs.Book.{pageRefusal}
+use Rattle.prover.specs.InRange.{inRange}
 use Rattle.prover.specs.Calls.{Asked}
-use Rattle.prover.specs.Page.{withAnswer, recordAfter, foundIn, modelsOf, GoalBy, PageAnswered, recordsOf, PagedAs}
+use Rattle.prover.specs.Page.{goalsOf, listNumber, pageNumber, withAnswer, recordAfter, foundIn, modelsOf, GoalBy, recordsOf, PagedAs}
 use Rattle.prover.specs.Paging.{wentOn, RecordAnswered}
 use Rattle.prover.specs.declared.Session.{Session}
 use Rattle.prover.specs.declared.Answered.{Answered}
@@ -50,11 +55,25 @@ module _ (p : Page) (x y : GoalRecord) (q : Page) where
 
 -- ---- records by value
 
--- A count above that of the rows is taken for theirs.
-pub all-lent : (s : Session) (records : Records) (r : Paged) → goalTable + 1 < records .count → length (records .rows) ≡ goalTable + 1
-    → PagedAs s (record { count = goalTable + 1; rows = records .rows }) r → PagedAs s records r
-all-lent s records r many size h = record {
-  same-count = omega (arith, h .same-count, many);
-  answered = subst (λ (xs : List GoalRecord). PageAnswered s xs (recordsOf (r .records)) (r .changed))
-      (take-all (goalTable + 1) (records .rows) (omega (arith, size)) ∙ sym (take-all (records .count) (records .rows) (omega (arith, size, many)))) (h .answered);
+-- A count above that of the rows is refused.
+pub not-lent : (s : Session) (records : Records) (k : ℕ) → goalTable + 1 < records .count → length (records .rows) ≡ goalTable + 1 → k ≡ listNumber s (records .count)
+    → PagedAs s records (record { changed = record { refusal = k; session = s }; records = records })
+unfolding pageRefusal
+not-lent s records k many size refused = record {
+  same-count = refl;
+  answered = record {
+    refused = refused ∙ same;
+    unchanged = λ _. (refl, refl);
+    done = λ e. absurd (no-page (inRange s) (same ∙ e));
+  };
 }
+  where
+    goals : length (goalsOf (recordsOf records)) ≡ goalTable + 1
+    goals = length-map (recordsOf records) (λ (x : GoalRecord). x .goal) ∙ ap length (take-all (records .count) (records .rows) (omega (arith, size, many))) ∙ size
+
+    same : listNumber s (records .count) ≡ pageNumber s (goalsOf (recordsOf records))
+    same = rw (lt-leb (records .count) goalTable (omega (arith, many)), lt-leb (length (goalsOf (recordsOf records))) goalTable (omega (arith, goals)))
+
+    no-page : (b : Bool) → _≡_ {A = ℕ} (cond b (cond (leb (records .count) goalTable) 0 19) 5) 0 → ⊥
+    no-page true e = omega (arith, rw (lt-leb (records .count) goalTable (omega (arith, many))) at e)
+    no-page false e = omega (arith, e)

@@ -1,6 +1,6 @@
 -- Definitions of the crate `prover`. The contracts of its public functions say by State what a session holds, by InRange when it
--- is in range, and by Calls what each call answers and holds next; Demand is the statement of demand 3. In Working, Search and
--- Settling the parts of a question speak to each other.
+-- is in range, by Calls what each call answers and holds next, and by Page what a page does; Demand is the statement of demand 3. In
+-- Paging the parts of a page speak to each other, in Working, Search and Settling those of a question.
 pub mod State
 pub mod InRange
 pub mod Calls

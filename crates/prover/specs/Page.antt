@@ -3,7 +3,7 @@ use mathlib.Core.Bool.{cond}
 use mathlib.Core.List.{List, [], _∷_, _++_, map}
 use mathlib.Core.Option.{Option, none, some}
 use mathlib.Core.Path.{_≡_}
-use Prim.Native.Nat.{ℕ, suc, _+_, min}
+use Prim.Native.Nat.{ℕ, suc}
 use lib.Dec.{leb}
 use lib.ListN.{getD, take}
 use Rattle.atoms.specs.Words.{rowOf}
@@ -105,5 +105,5 @@ recordsOf t = take (t .count) (t .rows)
 
 -- The contract of a page of them.
 pub record PagedAs (s : Session) (records : Records) (r : Paged) : Type 0 where
-  pub same-count : r .records .count ≡ min (records .count) (goalTable + 1)
+  pub same-count : r .records .count ≡ records .count
   pub answered : PageAnswered s (recordsOf records) (recordsOf (r .records)) (r .changed)

@@ -258,14 +258,18 @@ fn lend(records: Records, s: Session) -> Paged
     }
 }
 
-// A page of records by value, for callers that lend none. A count above that of the rows is taken for theirs.
+// A page of records by value, for callers that lend none. A count above that of the rows is one of too many.
 pub fn page_of(records: Records, s: Session) -> Paged
     ensures { λ r. ⌜ PagedAs s records r ⌝ }
 {
     if records.count <= ipl::GOALS + 1 {
         return lend(records, s);
     }
-    let mut all = records;
-    all.count = ipl::GOALS + 1;
-    lend(all, s)
+    Paged {
+        changed: Changed {
+            refusal: range::list_refusal(s, records.count),
+            session: s,
+        },
+        records,
+    }
 }

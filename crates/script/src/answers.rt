@@ -182,16 +182,16 @@ fn records_of(goals: Goals) -> Records
     requires { ⌜ goals .count ≤ goalRoom ⌝ }
     ensures { λ r. ⌜ (r .count ≡ goals .count) × (goalsOf (recordsOf r) ≡ take (goals .count) (goals .rows)) ⌝ }
 {
-    let mut rows = [unanswered(0); ipl::GOALS + 1];
+    let mut records = Records {
+        count: goals.count,
+        rows: [unanswered(0); ipl::GOALS + 1],
+    };
     let mut i = 0;
     while i < goals.count {
-        rows[i] = unanswered(goals.rows[i]);
+        records.rows[i] = unanswered(goals.rows[i]);
         i += 1;
     }
-    Records {
-        count: goals.count,
-        rows,
-    }
+    records
 }
 
 // The line of the goal at a place, with a figure.

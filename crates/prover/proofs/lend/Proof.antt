@@ -123,7 +123,7 @@ module _ {M : Type 1} (𝓤 : URA M) (H : Heap 𝓤) (A : Atoms 𝓤) (W : Given
 
     paged-as : (c : Changed) (zs : List GoalRecord) → length zs ≡ length xs → PageAnswered s₀ xs zs c → PagedAs s₀ b (out c zs)
     paged-as c zs same said = record {
-      same-count = omega (arith, few);
+      same-count = refl;
       answered = subst (λ (l : List GoalRecord). PageAnswered s₀ xs l c) (sym (ap (λ (k : ℕ). take k (zs ++ rest)) (sym (same ∙ xs-length)) ∙ take-front zs rest)) said;
     }
 

@@ -122,6 +122,8 @@ impl Scripts {
     fn written_together(&mut self) {
         let questions = ["open 3\nflat 1 2\n", "ask 0\nlength\n", " ask 1\n\nimplication 0 1 2\n", "ask 2\n", "ask 0"];
         self.in_writes(&questions.map(str::to_owned));
+        let pages = ["open 3\nflat 0 3\n", "page 0 1\nlength\n", " page 2\n\nflat 1 2\n", "page 0"];
+        self.in_writes(&pages.map(str::to_owned));
         let ahead = "open 3\nask 0\nask 1\nlength\n";
         let full = format!("#{:1$}\n{ahead}", "", FULL - ahead.len() - 2);
         self.in_writes(&[full, "ask 0\n".to_owned(), "ask 1\n".to_owned()]);

@@ -2,6 +2,7 @@
 use borrow.Author.Tests.{eq-eqb, ne-eqb}
 use Rattle.script.proofs.Performing.{goals-few, page-made}
 use borrow.Author.Needs.{needs}
+use native.Mathlib.Omega.{arith}
 use Rattle.script.proofs.answers.page.Statement.{statement}
 use Rattle.script.proofs.answers.page.Tie as tie
 
@@ -9,6 +10,12 @@ records-of-requires : tie.Need-records-of-requires
 records-of-requires c κs =
     let start = c .before .before .before in
     goals-few (start .args .line .now) (start .args .start) (start .pre .1 .0) (c .read-goals .result) (c .read-goals .ensures) (start .pre .1 .1)
+
+write-records-requires : tie.Need-write-records-requires
+write-records-requires c κs =
+    let paged = c .before .before .before .before .before in
+    let lent = paged .before in
+    omega (arith, paged .page-of .ensures .same-count, lent .records-of .ensures .0, records-of-requires (lent .before) tt)
 
 returns : tie.Need-returns
 returns c = λ gs e.
@@ -40,6 +47,6 @@ page-spec =
     (λ c κs. search needs)
     (λ c. search needs)
     returns
-    (λ c κs. search needs)
+    write-records-requires
     (λ c. search needs)
     returns-2)
