@@ -22,22 +22,16 @@ use Rattle.script.specs.declared.Pending.{Pending}
 use Rattle.script.specs.declared.answers.Answer.{Answer}
 use Rattle.script.specs.declared.reading.Goals.{Goals}
 use Rattle.script.specs.declared.reading.Call.{Call}
-use Rattle.script.specs.declared.reading.Call.the-variants.{Text, Page, Check}
+use Rattle.script.specs.declared.reading.Call.the-variants.{Page}
 use Rattle.script.proofs.Calls.{kept-is}
 
 -- A line from a place on, as the code takes it.
 pub rest-of : (line : List ℕ) (start : ℕ) → take (length line - start) (drop start line) ≡ drop start line
 rest-of line start = take-all (length line - start) (drop start line) (omega (arith, length-drop start line))
 
--- The places of a text and of a sheet's digits.
-pub text-inside : (line : List ℕ) {call : Call} {start : ℕ} → Inside line call → call ≡ Text start → start ≤ length line
-text-inside line h e = subst (Inside line) e h
-
-pub check-inside : (line : List ℕ) {call : Call} {start end : ℕ} → Inside line call → call ≡ Check start end → (start ≤ end) × (end ≤ length line)
-check-inside line h e = subst (Inside line) e h
-
-pub page-inside : (line : List ℕ) {call : Call} {start : ℕ} → Inside line call → call ≡ Page start → (start ≤ length line) × ((gs : List ℕ) × (goalsIn (wordsOf (drop start line)) ≡ some gs))
-page-inside line h e = subst (Inside line) e h
+-- The places of a call that is known.
+pub known-inside : (line : List ℕ) {call known : Call} → Inside line call → call ≡ known → Inside line known
+known-inside line h e = subst (Inside line) e h
 
 -- A page of the goals that were read.
 module _ (line : List ℕ) (start : ℕ) (gs : List ℕ) (goals : Goals) (h : GoalsRead (goalsIn (wordsOf (drop start line))) goals) (e : goalsIn (wordsOf (drop start line)) ≡ some gs) where

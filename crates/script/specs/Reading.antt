@@ -17,6 +17,8 @@ use Rattle.script.specs.declared.reading.Goals.{Goals}
 use Rattle.script.specs.declared.reading.Verb.{Verb}
 use Rattle.script.specs.declared.reading.Call.{Call}
 use Rattle.script.specs.declared.reading.Call.the-variants as code
+use Rattle.script.specs.declared.answers.Large.{Large}
+use Rattle.script.specs.declared.answers.Large.the-variants as large
 
 -- The goals of a page that a line is; one more than a page may have are enough of them to tell that they are too many.
 abbrev pub goalRoom : ℕ
@@ -66,6 +68,13 @@ Inside line (code.Return j) = Unit {0}
 Inside line code.Length = Unit {0}
 Inside line code.Sheet = Unit {0}
 Inside line (code.Check start end) = (start ≤ end) × (end ≤ length line)
+
+-- The calls that need large tables are calls.
+abbrev pub asCall : Large → Call
+asCall (large.Text start) = code.Text start
+asCall (large.Page start) = code.Page start
+asCall large.Sheet = code.Sheet
+asCall (large.Check start end) = code.Check start end
 
 -- The value says what a line is.
 pub record Means (line : List ℕ) (l : Line) (r : Call) : Type 0 where

@@ -2,42 +2,42 @@
 use super::Pending;
 use super::least;
 use super::numbers;
-use super::reading;
+use super::pages;
 use super::reading::Call;
-use super::reading::Goals;
 use atoms::AtomSet;
 use certify::Length;
-use prover::GoalAnswer;
-use prover::GoalRecord;
-use prover::Records;
 use prover::Session;
-use prover::Worlds;
-ghost use mathlib.Core.List.{List, _++_};
-ghost use mathlib.Core.Option.{some};
+ghost use mathlib.Core.List.{_++_};
 ghost use mathlib.Core.Path.{_≡_};
 ghost use Prim.Native.Nat.{ℕ, _≤_};
-ghost use lib.ListN.{length, take, drop};
-ghost use Rattle.ipl.specs.Book.{addFlat, addImplication, add, question, setMark, returnTo, page};
+ghost use lib.ListN.{length, drop};
+ghost use Rattle.ipl.specs.Book.{addFlat, addImplication, add, question, setMark, returnTo};
 ghost use Rattle.prover.specs.Calls.{flatOf};
-ghost use Rattle.prover.specs.Page.{goalsOf, recordsOf};
 ghost use Rattle.certificate.specs.Judge.{judge};
 ghost use Rattle.certify.specs.Written.{lengthTold};
-ghost use Rattle.text.specs.Text.{ascii, decimal, labelled};
+ghost use Rattle.text.specs.Text.{decimal};
 ghost use Rattle.text.specs.Output.{Appends};
 ghost use Rattle.judgement.specs.Report.{checkReport};
 ghost use Rattle.script.specs.Numbers.{paired};
-ghost use Rattle.script.specs.Command.{openSession, readText, callBook, goalsIn};
+ghost use Rattle.script.specs.Command.{openSession, readText, callBook};
 ghost use Rattle.script.specs.Places.{between};
 ghost use Rattle.script.specs.State.{changedLine, lengthLine, digitsLine};
-ghost use Rattle.script.specs.Words.{wordsOf};
-ghost use Rattle.script.specs.Reading.{goalRoom};
-ghost use Rattle.script.specs.Answer.{clausifiedLine, heldLine, recordLines, recordsLines, CommandDone, Writes, lineRoom};
+ghost use Rattle.script.specs.Reading.{meaning, Inside, asCall};
+ghost use Rattle.script.specs.Answer.{clausifiedLine, heldLine, CommandDone, LineDone, Writes, lineRoom};
 ghost use Rattle.script.specs.Pieces.{Answers};
 
 // The session that the script goes on with, and how many bytes were written of what is printed.
 pub struct Answer {
     pub session: Session,
     pub length: usize,
+}
+
+// The calls that need large tables, of a reader, of records or of a sheet: their frame is not that of every line's answer.
+enum Large {
+    Text(usize),
+    Page(usize),
+    Sheet,
+    Check(usize, usize),
 }
 
 // A number between two words.
@@ -164,96 +164,6 @@ fn ask(s: Session, goal: u8, output: &mut [u8]) -> Answer
     }
 }
 
-fn unanswered(goal: u8) -> GoalRecord
-    ensures { λ r. ⌜ r .goal ≡ goal ⌝ }
-{
-    GoalRecord {
-        goal,
-        answer: GoalAnswer::Open,
-        worlds: Worlds {
-            count: 0,
-            sets: [0; ipl::WORLDS * atoms::WORDS],
-        },
-    }
-}
-
-// A record for each goal.
-fn records_of(goals: Goals) -> Records
-    requires { ⌜ goals .count ≤ goalRoom ⌝ }
-    ensures { λ r. ⌜ (r .count ≡ goals .count) × (goalsOf (recordsOf r) ≡ take (goals .count) (goals .rows)) ⌝ }
-{
-    let mut records = Records {
-        count: goals.count,
-        rows: [unanswered(0); ipl::GOALS + 1],
-    };
-    let mut i = 0;
-    while i < goals.count {
-        records.rows[i] = unanswered(goals.rows[i]);
-        i += 1;
-    }
-    records
-}
-
-// The line of the goal at a place, with a figure.
-fn figured(output: &mut [u8], at: usize, place: usize, label: &[u8], figure: usize) -> usize
-    ensures { λ r. ⌜ Appends ((labelled "goal " place ++ (now (label .entry) ++ decimal figure)) ++ ascii "\n") (now (output .entry)) at (now (output .exit)) r ⌝ }
-{
-    let a = text::figure(output, at, b"goal ", place as u64);
-    let b = text::figure(output, a, label, figure as u64);
-    text::word(output, b, b"\n")
-}
-
-fn write_record(output: &mut [u8], at: usize, place: usize, r: GoalRecord) -> usize
-    ensures { λ n. ⌜ Appends (recordLines place r) (now (output .entry)) at (now (output .exit)) n ⌝ }
-{
-    let answer = r.answer;
-    match answer {
-        GoalAnswer::Open => at,
-        GoalAnswer::Valid(steps) => figured(output, at, place, b" valid ", steps),
-        GoalAnswer::Refuted(count) => {
-            let end = figured(output, at, place, b" refuted ", count);
-            report::worlds(output, end, r.worlds)
-        }
-        GoalAnswer::RefutedBy(other) => figured(output, at, place, b" refuted by ", other),
-        GoalAnswer::Refused(number) => figured(output, at, place, b" refused ", number as usize),
-    }
-}
-
-fn write_records(records: Records, output: &mut [u8]) -> usize
-    requires { ⌜ records .count ≤ goalRoom ⌝ }
-    ensures { λ r. ⌜ Appends (recordsLines 0 (recordsOf records)) (now (output .entry)) 0 (now (output .exit)) r ⌝ }
-{
-    let mut end = 0;
-    let mut i = 0;
-    while i < records.count {
-        end = write_record(output, end, i, records.rows[i]);
-        i += 1;
-    }
-    end
-}
-
-// The goals start at a place of the line.
-fn page(s: Session, line: &[u8], start: usize, output: &mut [u8]) -> Answer
-    requires { ⌜ (start ≤ length (now line)) × ((gs : List ℕ) × (goalsIn (wordsOf (drop start (now line))) ≡ some gs)) ⌝ }
-    ensures { λ r. ⌜ ((gs : List ℕ) → goalsIn (wordsOf (drop start (now (line .entry)))) ≡ some gs
-        → Writes (CommandDone s (callBook (page gs))) (now (output .entry)) (now (output .exit)) r) ⌝ }
-{
-    let goals = reading::read_goals(line, start);
-    let r = prover::page_of(records_of(goals), s);
-    let changed = r.changed;
-    let session = changed.session;
-    if changed.refusal != 0 {
-        return Answer {
-            session,
-            length: text::refusal(output, changed.refusal, 0, false),
-        };
-    }
-    Answer {
-        session,
-        length: write_records(r.records, output),
-    }
-}
-
 fn set_mark(s: Session, mark: u8, output: &mut [u8]) -> Answer
     ensures { λ r. ⌜ Writes (CommandDone s (callBook (setMark mark))) (now (output .entry)) (now (output .exit)) r ⌝ }
 {
@@ -276,6 +186,25 @@ fn return_to(s: Session, mark: u8, output: &mut [u8]) -> Answer
     }
 }
 
+// Makes a call with large tables and writes what is printed of it.
+fn answer_large(s: Session, line: &[u8], call: Large, output: &mut [u8]) -> Answer
+    requires { ⌜ Inside (now line) (asCall call) × (length (now line) ≤ lineRoom) ⌝ }
+    ensures { λ r. ⌜ ((number : ℕ) → Writes (LineDone s number (meaning (now (line .entry)) (asCall call))) (now (output .entry)) (now (output .exit)) r) ⌝ }
+{
+    match call {
+        Large::Text(start) => read_text(line, start, output),
+        Large::Page(start) => pages::page(s, line, start, output),
+        Large::Sheet => Answer {
+            session: s,
+            length: write_sheet(s, output),
+        },
+        Large::Check(start, end) => Answer {
+            session: s,
+            length: check(line, start, end, output),
+        },
+    }
+}
+
 // Answers the line of this number: makes its call and writes what is printed of it.
 pub fn answer_line(s: Session, number: u64, line: &[u8], p: Pending, output: &mut [u8]) -> Answer
     ensures { λ r. ⌜ Answers s number (now (line .entry)) p (now (output .entry)) (now (output .exit)) r ⌝ }
@@ -292,24 +221,18 @@ pub fn answer_line(s: Session, number: u64, line: &[u8], p: Pending, output: &mu
             length: numbered(output, b"line ", number, b" is no call\n"),
         },
         Call::Open(n) => open(n, output),
-        Call::Text(start) => read_text(kept, start, output),
+        Call::Text(start) => answer_large(s, kept, Large::Text(start), output),
         Call::Flat(left, right) => add_flat(s, left, right, output),
         Call::Implication(a, b, c) => add_implication(s, a, b, c, output),
         Call::Ask(goal) => ask(s, goal, output),
-        Call::Page(start) => page(s, kept, start, output),
+        Call::Page(start) => answer_large(s, kept, Large::Page(start), output),
         Call::Mark(number) => set_mark(s, number, output),
         Call::Return(number) => return_to(s, number, output),
         Call::Length => Answer {
             session: s,
             length: write_length(s, output),
         },
-        Call::Sheet => Answer {
-            session: s,
-            length: write_sheet(s, output),
-        },
-        Call::Check(start, end) => Answer {
-            session: s,
-            length: check(kept, start, end, output),
-        },
+        Call::Sheet => answer_large(s, kept, Large::Sheet, output),
+        Call::Check(start, end) => answer_large(s, kept, Large::Check(start, end), output),
     }
 }

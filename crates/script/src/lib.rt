@@ -10,6 +10,7 @@ ghost use Rattle.script.specs.Pieces.{Longer, CallIs, GatheredFrom};
 
 mod answers;
 mod numbers;
+mod pages;
 mod reading;
 mod words;
 

@@ -1,18 +1,18 @@
 -- By the call.
 use mathlib.Core.List.{List, []}
 use mathlib.Core.Path.{_≡_, refl, sym, ap, _∙_}
-use Prim.Native.Nat.{ℕ, min}
-use lib.ListN.{take}
+use Prim.Native.Nat.{ℕ, _≤_, min}
+use lib.ListN.{length, take}
 use lib.Seq.{length-take-le}
 use Rattle.text.specs.Text.{ascii}
 use Rattle.text.proofs.Appending.{nothing}
-use Rattle.script.specs.Reading.{meaning}
-use Rattle.script.specs.Answer.{LineDone, Writes}
+use Rattle.script.specs.Reading.{meaning, Inside}
+use Rattle.script.specs.Answer.{LineDone, Writes, lineRoom}
 use Rattle.script.specs.Pieces.{Answers}
 use Rattle.script.specs.declared.answers.Answer.{Answer}
 use Rattle.script.specs.declared.reading.Call.{Call}
 use Rattle.script.proofs.Calls.{kept-short}
-use Rattle.script.proofs.Performing.{text-inside, page-inside, check-inside, page-done, answered}
+use Rattle.script.proofs.Performing.{known-inside, answered}
 use borrow.Author.Needs.{needs}
 use native.Mathlib.Omega.{arith}
 use Rattle.script.proofs.answers.answer_line.Statement.{statement}
@@ -21,21 +21,27 @@ use Rattle.script.proofs.answers.answer_line.Tie as tie
 slice-aggregate-kept : tie.Need-slice-aggregate-kept
 slice-aggregate-kept c = sym (length-take-le _ _ (omega (arith, c .before .least2 .ensures, c .before .before .least .ensures)))
 
-read-text-requires : tie.Need-read-text-requires
-read-text-requires c κs = let made = c .before .before in text-inside _ (made .before .before .kept-call .ensures .inside) (made .start .given .1)
-
-page-requires : tie.Need-page-requires
-page-requires c κs = let made = c .before .before in page-inside _ (made .before .before .kept-call .ensures .inside) (made .start2 .given .1)
-
-check-requires : tie.Need-check-requires
-check-requires c κs =
-    let made = c .before .before in
-    let read = made .before .before in
+-- The call that was read is known: its places are in what is kept of the line, which is short.
+ready : (read : tie.After-kept-call) {known : Call} → read .kept-call .result ≡ known
+    → (let size = read .before .before in let line = take (size .least2 .result) (size .before .before .before .before .args .line .now) in
+    Inside line known × (length line ≤ lineRoom))
+ready read e =
     let size = read .before .before in
-    let inside = check-inside _ (read .kept-call .ensures .inside) (made .start3 .given .1) in
-    (inside .0, inside .1, kept-short _ _ _ (size .least2 .ensures ∙ ap (min (size .before .before .before .before .args .p .length)) (size .before .least .ensures)))
+    (known-inside _ (read .kept-call .ensures .inside) e, kept-short _ _ _ (size .least2 .ensures ∙ ap (min (size .before .before .before .before .args .p .length)) (size .before .least .ensures)))
 
--- The call that was read is known, and was made.
+answer-large-requires : tie.Need-answer-large-requires
+answer-large-requires c κs = let known = c .before .before in ready (known .before .before) (known .start .given .1)
+
+answer-large-requires-2 : tie.Need-answer-large-requires-2
+answer-large-requires-2 c κs = let known = c .before .before in ready (known .before .before) (known .start2 .given .1)
+
+answer-large-requires-3 : tie.Need-answer-large-requires-3
+answer-large-requires-3 c κs = let known = c .before in ready (known .before .before) (known .enum-told4 .given .1)
+
+answer-large-requires-4 : tie.Need-answer-large-requires-4
+answer-large-requires-4 c κs = let known = c .before .before in ready (known .before .before) (known .start3 .given .1)
+
+-- It was made.
 made : (read : tie.After-kept-call) {entry exit : List ℕ} {r : Answer} {known : Call} → read .kept-call .result ≡ known
     → (let size = read .before .before in let args = size .before .before .before .before .args in
     Writes (LineDone (args .s) (args .number) (meaning (take (size .least2 .result) (args .line .now)) known)) entry exit r
@@ -61,7 +67,7 @@ returns-4 : tie.Need-returns-4
 returns-4 c =
     let known = c .before .before .before .before .before in
     let read = known .before .before in
-    made read (known .start .given .1) (c .before .before .read-text .ensures (read .before .before .before .before .before .before .args .s))
+    made read (known .start .given .1) (c .before .before .answer-large .ensures (read .before .before .before .before .before .before .args .number))
 
 returns-5 : tie.Need-returns-5
 returns-5 c =
@@ -82,11 +88,7 @@ returns-8 : tie.Need-returns-8
 returns-8 c =
     let known = c .before .before .before .before .before in
     let read = known .before .before in
-    let size = read .before .before in
-    let args = size .before .before .before .before .args in
-    let goals = page-inside _ (read .kept-call .ensures .inside) (known .start2 .given .1) .1 in
-    made read (known .start2 .given .1)
-    (page-done (take (size .least2 .result) (args .line .now)) (known .start2 .given .0 .0) (goals .0) (goals .1) (args .number) (c .before .before .page .ensures (goals .0) (goals .1)))
+    made read (known .start2 .given .1) (c .before .before .answer-large2 .ensures (read .before .before .before .before .before .before .args .number))
 
 returns-9 : tie.Need-returns-9
 returns-9 c =
@@ -106,12 +108,14 @@ returns-11 c =
 returns-12 : tie.Need-returns-12
 returns-12 c =
     let known = c .before .before .before .before in
-    made (known .before .before) (known .enum-told4 .given .1) (_, (refl, refl), c .before .before .write-sheet .ensures)
+    let read = known .before .before in
+    made read (known .enum-told4 .given .1) (c .before .before .answer-large3 .ensures (read .before .before .before .before .before .before .args .number))
 
 returns-13 : tie.Need-returns-13
 returns-13 c =
     let known = c .before .before .before .before .before in
-    made (known .before .before) (known .start3 .given .1) (_, (refl, refl), c .before .before .check .ensures)
+    let read = known .before .before in
+    made read (known .start3 .given .1) (c .before .before .answer-large4 .ensures (read .before .before .before .before .before .before .args .number))
 
 pub answer-line-spec : {M : Type 1} → statement M
 answer-line-spec =
@@ -129,7 +133,7 @@ answer-line-spec =
     (λ c. search needs)
     (λ c κs. search needs)
     (λ c. search needs)
-    read-text-requires
+    answer-large-requires
     (λ c. search needs)
     (λ c κs. search needs)
     (λ c. search needs)
@@ -137,7 +141,7 @@ answer-line-spec =
     (λ c. search needs)
     (λ c κs. search needs)
     (λ c. search needs)
-    page-requires
+    answer-large-requires-2
     (λ c. search needs)
     (λ c κs. search needs)
     (λ c. search needs)
@@ -145,9 +149,9 @@ answer-line-spec =
     (λ c. search needs)
     (λ c κs. search needs)
     (λ c. search needs)
-    (λ c κs. search needs)
+    answer-large-requires-3
     (λ c. search needs)
-    check-requires
+    answer-large-requires-4
     returns
     (λ c. search needs)
     returns-2

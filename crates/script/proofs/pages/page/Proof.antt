@@ -3,8 +3,8 @@ use borrow.Author.Tests.{eq-eqb, ne-eqb}
 use Rattle.script.proofs.Performing.{goals-few, page-made}
 use borrow.Author.Needs.{needs}
 use native.Mathlib.Omega.{arith}
-use Rattle.script.proofs.answers.page.Statement.{statement}
-use Rattle.script.proofs.answers.page.Tie as tie
+use Rattle.script.proofs.pages.page.Statement.{statement}
+use Rattle.script.proofs.pages.page.Tie as tie
 
 records-of-requires : tie.Need-records-of-requires
 records-of-requires c κs =

@@ -2,8 +2,8 @@
 use Rattle.text.specs.Text.{ascii}
 use Rattle.text.proofs.Appending.{both}
 use borrow.Author.Needs.{needs}
-use Rattle.script.proofs.answers.figured.Statement.{statement}
-use Rattle.script.proofs.answers.figured.Tie as tie
+use Rattle.script.proofs.pages.figured.Statement.{statement}
+use Rattle.script.proofs.pages.figured.Tie as tie
 
 returns : tie.Need-returns
 unfolding ascii

@@ -10,8 +10,8 @@ use Rattle.script.specs.Answer.{recordsLines}
 use Rattle.script.proofs.PageLines.{lines-next}
 use borrow.Author.Needs.{needs}
 use native.Mathlib.Omega.{arith}
-use Rattle.script.proofs.answers.write_records.Statement.{statement}
-use Rattle.script.proofs.answers.write_records.Tie as tie
+use Rattle.script.proofs.pages.write_records.Statement.{statement}
+use Rattle.script.proofs.pages.write_records.Tie as tie
 
 abbrev Inv-loop : tie.InvT-loop
 Inv-loop output₀ records end₀ i₀ output end i = (i ≤ records .count) × Appends (recordsLines 0 (take i (records .rows))) output₀ 0 output end

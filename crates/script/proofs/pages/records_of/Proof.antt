@@ -7,8 +7,8 @@ use Rattle.script.specs.Reading.{goalRoom}
 use Rattle.script.proofs.PageLines.{goals-next}
 use borrow.Author.Needs.{needs}
 use native.Mathlib.Omega.{arith}
-use Rattle.script.proofs.answers.records_of.Statement.{statement}
-use Rattle.script.proofs.answers.records_of.Tie as tie
+use Rattle.script.proofs.pages.records_of.Statement.{statement}
+use Rattle.script.proofs.pages.records_of.Tie as tie
 
 abbrev Inv-loop : tie.InvT-loop
 Inv-loop goals records₀ i₀ records i =

@@ -9,8 +9,8 @@ use Rattle.text.specs.Output.{Appends}
 use Rattle.text.proofs.Appending.{same-text, both, nothing}
 use Rattle.script.specs.Answer.{answerLines, recordLines}
 use borrow.Author.Needs.{needs}
-use Rattle.script.proofs.answers.write_record.Statement.{statement}
-use Rattle.script.proofs.answers.write_record.Tie as tie
+use Rattle.script.proofs.pages.write_record.Statement.{statement}
+use Rattle.script.proofs.pages.write_record.Tie as tie
 
 -- The answer is known.
 by-answer : {x y : List ℕ} {at n : ℕ} (place : ℕ) (r : GoalRecord) (known : GoalAnswer) → r .answer ≡ known → Appends (answerLines place known (r .worlds)) x at y n → Appends (recordLines place r) x at y n
