@@ -1,9 +1,9 @@
 -- Demand 3: the theorem, for every run of calls.
 use mathlib.Core.Bool.{true}
 use mathlib.Core.List.{List, [], _∷_}
-use mathlib.Core.Path.{_≡_, refl, sym, _∙_, subst}
+use mathlib.Core.Path.{_≡_, refl, sym, subst}
 use Prim.Native.Nat.{ℕ}
-use Rattle.ipl.specs.Book.{Book, opened, additionRefusal, answer, refusal}
+use Rattle.ipl.specs.Book.{Book, opened, additionRefusal, refusal}
 use Rattle.ipl.proofs.Book.{Reached, opened-reached, next-reached, claims}
 use Rattle.prover.specs.State.{book}
 use Rattle.prover.specs.InRange.{inRange}

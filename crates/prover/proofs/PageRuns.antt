@@ -1,6 +1,6 @@
 -- A page on a session whose book is reached: it follows the book, goal by goal.
-use mathlib.Core.Bool.{Bool, true, false, cond}
-use mathlib.Core.List.{List, [], _∷_, _++_, map, append-nil}
+use mathlib.Core.Bool.{true, cond}
+use mathlib.Core.List.{List, [], _∷_, _++_}
 use mathlib.Core.Option.{Option, none, some}
 use mathlib.Core.Path.{_≡_, refl, sym, ap, ap₂, _∙_, subst}
 use Prim.Native.Nat.{ℕ, suc, _<_}
@@ -11,18 +11,18 @@ use lib.ListN.{length, getD}
 use borrow.Author.Tests.{eq-eqb, ne-eqb}
 use Rattle.atoms.specs.Words.{rowOf}
 use Rattle.atoms.proofs.Truth.{by-cond}
-use Rattle.ipl.specs.Search.{State, Outcome, valid, refuted, refused, unfinished}
+use Rattle.ipl.specs.Search.{Outcome, valid, refuted, refused, unfinished}
 use Rattle.ipl.specs.Page.{Found, earliest, Entry, searched, refutedBy, foundAs, foundBy}
 use Rattle.ipl.specs.Book as B
-use Rattle.ipl.specs.Book.{Book, answer, refusal, numberOf, stepsAfter, taken, afterAnswer, entryBy, afterEntry, entriesFrom, entries, afterEntries, pageRefusal, next}
+use Rattle.ipl.specs.Book.{Book, answer, refusal, numberOf, stepsAfter, taken, afterAnswer, entryBy, afterEntry, entriesFrom, entries, afterEntries, next}
 use Rattle.ipl.proofs.Lists.{tabulate-length, tabulate-at}
 use Rattle.ipl.proofs.Search.{OutcomeRight}
 use Rattle.ipl.proofs.Limits.{Fits}
-use Rattle.ipl.proofs.Book.{Reached, next-reached, next-taken, answer-right}
+use Rattle.ipl.proofs.Book.{Reached, next-reached, answer-right}
 use Rattle.prover.specs.State.{worldsOf, book}
 use Rattle.prover.specs.InRange.{inRange}
 use Rattle.prover.specs.Calls.{AskedAs}
-use Rattle.prover.specs.Page.{goalsOf, pageNumber, withAnswer, recordAfter, foundIn, GoalBy, GoalDone, GoalsDone, PageAnswered}
+use Rattle.prover.specs.Page.{goalsOf, pageNumber, recordAfter, foundIn, GoalBy, GoalsDone, PageAnswered}
 use Rattle.prover.specs.Demand.{PageReturned, RecordIs, RecordsAre, none as no-record, one-more, heldAs, heldBy, heldAfter, questionsAfter, questionsBy, pageTotal, PageIs}
 use Rattle.prover.specs.declared.Held.{Held}
 use Rattle.prover.specs.declared.Verdict.{Verdict}

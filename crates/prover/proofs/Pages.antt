@@ -61,6 +61,7 @@ pub not-lent : (s : Session) (records : Records) (k : ℕ) → goalTable + 1 < r
 unfolding pageRefusal
 not-lent s records k many size refused = record {
   same-count = refl;
+  past = refl;
   answered = record {
     refused = refused ∙ same;
     unchanged = λ _. (refl, refl);

@@ -5,10 +5,10 @@ use mathlib.Core.Path.{_≡_, refl, sym, ap, _∙_, subst}
 use Prim.Native.Nat.{ℕ, suc, _+_, _-_, _≤_, _<_}
 use native.Mathlib.Decide.{decLt}
 use native.Mathlib.Omega.{arith}
-use lib.Dec.{T, eqb, leb, ltb}
+use lib.Dec.{T, leb, ltb}
 use lib.ListN.{length, getD, set, take, drop, length-set, length-map, drop-of-length-le, List·getD-map}
-use lib.Seq.{take-all, take-suc, drop-cons, drop-drop, drop-set-lt, take-suc-set, set-getD, getD-drop}
-use borrow.Author.Tests.{eq-eqb, ne-eqb, le-leb, leb-true, leb-false, lt-leb, ltb-true, ltb-false}
+use lib.Seq.{take-all, take-suc, drop-cons, drop-set-lt, take-suc-set, set-getD}
+use borrow.Author.Tests.{eq-eqb, ne-eqb, le-leb, leb-true, ltb-true, ltb-false}
 use Rattle.atoms.proofs.Truth.{true-T, false-T}
 use Rattle.ipl.specs.Lists.{all, tabulate}
 use Rattle.ipl.specs.Range.{atomOrBot}

@@ -5,7 +5,7 @@ use mathlib.Core.Option.{Option, none, some}
 use mathlib.Core.Path.{_≡_}
 use Prim.Native.Nat.{ℕ, suc}
 use lib.Dec.{leb}
-use lib.ListN.{getD, take}
+use lib.ListN.{getD, take, drop}
 use Rattle.atoms.specs.Words.{rowOf}
 use Rattle.ipl.specs.Lists.{tabulate}
 use Rattle.ipl.specs.Page.{goalTable, Found, earliest}
@@ -103,7 +103,8 @@ pub record PageAnswered (s : Session) (xs ys : List GoalRecord) (r : Changed) : 
 abbrev pub recordsOf : Records → List GoalRecord
 recordsOf t = take (t .count) (t .rows)
 
--- The contract of a page of them.
+-- The contract of a page of them; rows past the count stay as they were.
 pub record PagedAs (s : Session) (records : Records) (r : Paged) : Type 0 where
   pub same-count : r .records .count ≡ records .count
+  pub past : drop (records .count) (r .records .rows) ≡ drop (records .count) (records .rows)
   pub answered : PageAnswered s (recordsOf records) (recordsOf (r .records)) (r .changed)

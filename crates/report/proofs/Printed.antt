@@ -7,7 +7,7 @@ use Rattle.ipl.specs.Search.{Outcome, valid, refuted, refused, unfinished}
 use Rattle.ipl.specs.Book.{Book, answer}
 use Rattle.ipl.proofs.Book.{Reached}
 use Rattle.prover.specs.State.{book}
-use Rattle.prover.specs.Calls.{totalAfter, Asked, AskedAs}
+use Rattle.prover.specs.Calls.{Asked, AskedAs}
 use Rattle.prover.specs.declared.Session.{Session}
 use Rattle.prover.specs.declared.Verdict.{Verdict}
 use Rattle.prover.specs.declared.Answered.{Answered}

@@ -1,7 +1,6 @@
 -- All records are to be taken, or none.
 use borrow.Author.Tests.{eq-eqb, ne-eqb}
-use mathlib.Core.Path.{refl, sym, ap}
-use mathlib.Core.Bool.{Bool, cond}
+use mathlib.Core.Path.{refl}
 use borrow.Author.Needs.{needs}
 use Rattle.prover.proofs.paging.begin.Statement.{statement}
 use Rattle.prover.proofs.paging.begin.Tie as tie

@@ -1,6 +1,6 @@
 -- The lines of the records passed.
 use mathlib.Core.Path.{_≡_, ap}
-use Prim.Native.Nat.{ℕ, _+_, _-_, _≤_, _<_}
+use Prim.Native.Nat.{ℕ, _+_, _-_, _≤_}
 use lib.ListN.{length, take}
 use Rattle.ipl.specs.Page.{goalTable}
 use Rattle.prover.proofs.MarkRows.{sized}
