@@ -48,7 +48,8 @@ module _ (line : List ℕ) (start : ℕ) (gs : List ℕ) (goals : Goals) (h : Go
   page-made {lent = lent} {p} l a w =
       (_, (recordsOf lent, l .1 ∙ goals-are .first, record { changed = p .changed; records = recordsOf (p .records) }, a .answered, refl, refl), w)
 
-pub page-done : (line : List ℕ) (start : ℕ) (gs : List ℕ) → goalsIn (wordsOf (drop start line)) ≡ some gs → (number : ℕ) {s : Session} {entry exit : List ℕ} {r : Answer} → Writes (CommandDone s (callBook (page gs))) entry exit r
+pub page-done : (line : List ℕ) (start : ℕ) (gs : List ℕ) → goalsIn (wordsOf (drop start line)) ≡ some gs
+    → (number : ℕ) {s : Session} {entry exit : List ℕ} {r : Answer} → Writes (CommandDone s (callBook (page gs))) entry exit r
     → Writes (LineDone s number (meaning line (Page start))) entry exit r
 page-done line start gs e number {s} {entry} {exit} {r} w = subst (λ (o : Option (List ℕ)). Writes (LineDone s number (pageOf o)) entry exit r) (sym e) w
 

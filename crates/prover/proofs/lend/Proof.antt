@@ -212,7 +212,8 @@ module _ {M : Type 1} (𝓤 : URA M) (H : Heap 𝓤) (A : Atoms 𝓤) (W : Given
           out-is c zs is c-is = paged-are (out c zs) c-is (out-records c zs is)
 
     enters : (𝓣 : Tables 𝓤 H) (pages : Triple 𝓤 (𝓣 .C #page) Page) (body : Body)
-        → ((l₀ l₁ l₂ l₃ l₄ l₅ l₆ l₇ l₈ : ℕ) → ent 𝓤 (⋆ 𝓤 H A (Begun 𝓣 pages l₀ l₁ l₂ l₃ l₄ l₅ l₆ l₇ l₈)) (Wp 𝓤 H (𝓣 .C) (𝓣 .Λ) (En 𝓣 pages l₀ l₁ l₂ l₃ l₄ l₅ l₆ l₇ l₈) body (atReturn 𝓤 H (En 𝓣 pages l₀ l₁ l₂ l₃ l₄ l₅ l₆ l₇ l₈) Post)))
+        → ((l₀ l₁ l₂ l₃ l₄ l₅ l₆ l₇ l₈ : ℕ) → ent 𝓤 (⋆ 𝓤 H A (Begun 𝓣 pages l₀ l₁ l₂ l₃ l₄ l₅ l₆ l₇ l₈))
+        (Wp 𝓤 H (𝓣 .C) (𝓣 .Λ) (En 𝓣 pages l₀ l₁ l₂ l₃ l₄ l₅ l₆ l₇ l₈) body (atReturn 𝓤 H (En 𝓣 pages l₀ l₁ l₂ l₃ l₄ l₅ l₆ l₇ l₈) Post)))
         → ent 𝓤 (onEntry 𝓤 H A lend.signature tt tt (b, (s₀, tt)) vals) (WpFn 𝓤 H (𝓣 .C) (𝓣 .Λ) (with-body body) (bval b ∷ sval s₀ ∷ []) Post)
     enters 𝓣 pages body k =
         qed W (raw (onEntry 𝓤 H A lend.signature tt tt (b, (s₀, tt)) vals) ∷ []) ∵ drop ! $ enter ! (𝓣 .C) (𝓣 .Λ) (with-body body) (bval b ∷ sval s₀ ∷ []) _ $
@@ -220,7 +221,9 @@ module _ {M : Type 1} (𝓤 : URA M) (H : Heap 𝓤) (A : Atoms 𝓤) (W : Given
         pass1 ! (init ! 14 refl (b-typed W b b-is)) $ pass1 ! (init ! 12 refl (s-typed W s₀ s₀-is)) $ pass0 ! $ by ! (k l₀ l₁ l₂ l₃ l₄ l₅ l₆ l₇ l₈))))))))))
 
     walk : (𝓣 : Tables 𝓤 H) → Triple 𝓤 (𝓣 .C #page) Page → ent 𝓤 (onEntry 𝓤 H A lend.signature tt tt (b, (s₀, tt)) vals) (WpFn 𝓤 H (𝓣 .C) (𝓣 .Λ) code.function (bval b ∷ sval s₀ ∷ []) Post)
-    walk 𝓣 pages = subst (λ (f : Fn). ent 𝓤 (onEntry 𝓤 H A lend.signature tt tt (b, (s₀, tt)) vals) (WpFn 𝓤 H (𝓣 .C) (𝓣 .Λ) f (bval b ∷ sval s₀ ∷ []) Post)) is-lend (enters 𝓣 pages mir′.t-1 (begun 𝓣 pages))
+    walk 𝓣 pages =
+        subst (λ (f : Fn). ent 𝓤 (onEntry 𝓤 H A lend.signature tt tt (b, (s₀, tt)) vals) (WpFn 𝓤 H (𝓣 .C) (𝓣 .Λ) f (bval b ∷ sval s₀ ∷ []) Post)) is-lend
+        (enters 𝓣 pages mir′.t-1 (begun 𝓣 pages))
 
   lend-walks : (𝓣 : Tables 𝓤 H) → Triple 𝓤 (𝓣 .C #page) Page → Walks 𝓤 H A lend.ended stayed (WpFn 𝓤 H (𝓣 .C) (𝓣 .Λ) code.function) (lend.clauses 𝓤 H A mem run)
   unfolding sval bval
@@ -229,7 +232,8 @@ module _ {M : Type 1} (𝓤 : URA M) (H : Heap 𝓤) (A : Atoms 𝓤) (W : Given
       (λ κs qs bounds a g are. needs 𝓤 (a .0 .count ≤ goalTable + 1) _ (λ few. walk (a .0) (a .1 .0) (are .0) (are .1 .0) few 𝓣 pages))
 
   lend-meets : (𝓣 : Tables 𝓤 H) → Triple 𝓤 (𝓣 .C #page) Page → Meets 𝓤 H A lend.signature (WpFn 𝓤 H (𝓣 .C) (𝓣 .Λ) code.function) (lend.spec 𝓤 H A mem run)
-  lend-meets 𝓣 pages = walk-meets 𝓤 H A lend.ended stayed W (goes-dropped 𝓤 H A W 0 (plain (λ _. B.the-row)) yes (λ κs x f. refl), (goes-dropped 𝓤 H A W 0 (plain (λ _. S.the-row)) yes (λ κs x f. refl), tt)) (lend.clauses 𝓤 H A mem run)
+  lend-meets 𝓣 pages = walk-meets 𝓤 H A lend.ended stayed W
+      (goes-dropped 𝓤 H A W 0 (plain (λ _. B.the-row)) yes (λ κs x f. refl), (goes-dropped 𝓤 H A W 0 (plain (λ _. S.the-row)) yes (λ κs x f. refl), tt)) (lend.clauses 𝓤 H A mem run)
       (WpFn 𝓤 H (𝓣 .C) (𝓣 .Λ) code.function) (WpFn-mono 𝓤 H (W .laws) 𝓣 code.function) (lend-walks 𝓣 pages)
 
 pub lend-spec : {M : Type 1} → stated.statement M

@@ -247,7 +247,8 @@ module _ {M : Type 1} (𝓤 : URA M) (H : Heap 𝓤) (A : Atoms 𝓤) (W : Given
           elem-out ! R.the-row (Is R.the-row) (shows 𝓤 H A R.the-row) (LL.vals R.the-type R′.the-laws) (LL.tells R.the-type R′.the-laws) fullShare (t .zs) i d b o within (λ r-is.
           -- [records[i]; what it owns; the others; the open borrow; obs; auth; _0 to _11; …]: local k at 6 + k, and at 7 + k where a call's operands are read
           assigns ! (of-opd ! (load ! (from ! (hop ! (look ! 15 refl) (stop !))) (look-raw ! 0 refl))) (from ! (stop !)) (init ! 16 refl (r-typed W r r-is)) $
-          calls-for ! (fmOf 𝓤 H (W .laws) 𝓣) Take (known .takes) (to-take (t .p) r) (goes-take (t .p) r (t .is) r-is (below, underway-room (t .underway) below)) N.the-row nval n-tells (RecordTaken (t .p) r) _ (of-take (t .p) r) (λ v. id⊢ 𝓤 _)
+          calls-for ! (fmOf 𝓤 H (W .laws) 𝓣) Take (known .takes) (to-take (t .p) r) (goes-take (t .p) r (t .is) r-is (below, underway-room (t .underway) below))
+          N.the-row nval n-tells (RecordTaken (t .p) r) _ (of-take (t .p) r) (λ v. id⊢ 𝓤 _)
           (and-then ! (load ! (from ! (stop !)) (look ! 10 refl)) (and-then ! (load ! (from ! (stop !)) (look ! 17 refl)) (no-more !))) (λ u taken u-is.
           land ! (from ! (stop !)) (init ! 11 refl (n-typed W u u-is)) $
           -- the place again, and the record that came back is stored there
@@ -330,7 +331,8 @@ module _ {M : Type 1} (𝓤 : URA M) (H : Heap 𝓤) (A : Atoms 𝓤) (W : Given
           by ! (looped (record { p = p; zs = xs; underway = begun-underway s₀ xs p p-begun; is = p-is })))
 
     enters : (𝓣 : Tables 𝓤 H) (known : Known 𝓣) (body : Body)
-        → ((l₀ l₁ l₂ l₃ l₄ l₅ l₆ l₇ l₈ l₉ l₁₀ l₁₁ : ℕ) → ent 𝓤 (⋆ 𝓤 H A (Begun 𝓣 known l₀ l₁ l₂ l₃ l₄ l₅ l₆ l₇ l₈ l₉ l₁₀ l₁₁)) (Wp 𝓤 H (𝓣 .C) (𝓣 .Λ) (En 𝓣 known l₀ l₁ l₂ l₃ l₄ l₅ l₆ l₇ l₈ l₉ l₁₀ l₁₁) body (atReturn 𝓤 H (En 𝓣 known l₀ l₁ l₂ l₃ l₄ l₅ l₆ l₇ l₈ l₉ l₁₀ l₁₁) Post)))
+        → ((l₀ l₁ l₂ l₃ l₄ l₅ l₆ l₇ l₈ l₉ l₁₀ l₁₁ : ℕ) → ent 𝓤 (⋆ 𝓤 H A (Begun 𝓣 known l₀ l₁ l₂ l₃ l₄ l₅ l₆ l₇ l₈ l₉ l₁₀ l₁₁))
+        (Wp 𝓤 H (𝓣 .C) (𝓣 .Λ) (En 𝓣 known l₀ l₁ l₂ l₃ l₄ l₅ l₆ l₇ l₈ l₉ l₁₀ l₁₁) body (atReturn 𝓤 H (En 𝓣 known l₀ l₁ l₂ l₃ l₄ l₅ l₆ l₇ l₈ l₉ l₁₀ l₁₁) Post)))
         → ent 𝓤 (onEntry 𝓤 H A page.signature (κ, tt) (q, tt) a vals) (WpFn 𝓤 H (𝓣 .C) (𝓣 .Λ) (with-body body) (sliceVal (b, o) n ∷ sval s₀ ∷ []) Post)
     enters 𝓣 known body k =
         qed W ((‵ (flft κ q) ⊛ ‵ ftrue) ∷ ‵ (owns (MutSlice (named 0) κ R.the-row ∷ S.the-row ∷ []) a vals) ∷ []) ∵ enter ! (𝓣 .C) (𝓣 .Λ) (with-body body) (sliceVal (b, o) n ∷ sval s₀ ∷ []) _ $
@@ -339,7 +341,9 @@ module _ {M : Type 1} (𝓤 : URA M) (H : Heap 𝓤) (A : Atoms 𝓤) (W : Given
         by ! (k l₀ l₁ l₂ l₃ l₄ l₅ l₆ l₇ l₈ l₉ l₁₀ l₁₁)))))))))))))
 
     walk : (𝓣 : Tables 𝓤 H) → Known 𝓣 → ent 𝓤 (onEntry 𝓤 H A page.signature (κ, tt) (q, tt) a vals) (WpFn 𝓤 H (𝓣 .C) (𝓣 .Λ) code.function (sliceVal (b, o) n ∷ sval s₀ ∷ []) Post)
-    walk 𝓣 known = subst (λ (f : Fn). ent 𝓤 (onEntry 𝓤 H A page.signature (κ, tt) (q, tt) a vals) (WpFn 𝓤 H (𝓣 .C) (𝓣 .Λ) f (sliceVal (b, o) n ∷ sval s₀ ∷ []) Post)) is-page (enters 𝓣 known mir′.t-1 (begun 𝓣 known))
+    walk 𝓣 known =
+        subst (λ (f : Fn). ent 𝓤 (onEntry 𝓤 H A page.signature (κ, tt) (q, tt) a vals) (WpFn 𝓤 H (𝓣 .C) (𝓣 .Λ) f (sliceVal (b, o) n ∷ sval s₀ ∷ []) Post)) is-page
+        (enters 𝓣 known mir′.t-1 (begun 𝓣 known))
 
   page-walks : (𝓣 : Tables 𝓤 H) → Known 𝓣 → Walks 𝓤 H A page.ended stayed (WpFn 𝓤 H (𝓣 .C) (𝓣 .Λ) code.function) (page.clauses 𝓤 H A mem run)
   unfolding sval
