@@ -8,7 +8,6 @@ use Rattle.ipl.proofs.Book.{Reached, opened-reached, next-reached, claims}
 use Rattle.prover.specs.State.{book}
 use Rattle.prover.specs.InRange.{inRange}
 use Rattle.prover.specs.Calls.{NothingHeld, VerdictKept}
-use Rattle.prover.specs.Page.{goalsOf}
 use Rattle.prover.specs.Demand.{Made, addFlat, addImplication, question, setMark, returnTo, page, callOf, Returned, sessionOf, Meets, Run, AnswerIs, Follows, DemandThree}
 use Rattle.prover.specs.declared.Session.{Session}
 use Rattle.prover.proofs.Keeping.{Kept, nothing-in-range, change-answer, dropped-kept, set-kept, asked-as, asked-kept}

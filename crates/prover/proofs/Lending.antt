@@ -1,7 +1,10 @@
--- A local array whose first elements are lent as a slice: they are lent, and once the slice is given up they are taken back. Steps of `Types/Kit.antt`'s calculus, for any element type of facts only and one machine value.
---     lends-front      of the array's cell: a new lifetime's token, the slice of its first k elements, the lender's part, and the elements after them
---     fronts-back      of the token, what the slice ended as, the lender's part and the elements after them: the array's cell again
---     each-out, rows-out, rows-in      an array as a struct's field has its elements as tuples, and a slice has them as records: they have the same machine values
+-- A local array whose first elements are lent as a slice: they are lent, and once the slice is given up they are taken back. Steps of
+-- `Types/Kit.antt`'s calculus, for any element type of facts only and one machine value.
+--     lends-front          of the array's cell: a new lifetime's token, the slice of its first k elements, the lender's part, and the elements
+--                          after them
+--     fronts-back          of the token, what the slice ended as, the lender's part and the elements after them: the array's cell again
+--     rows-out, rows-in    an array as a struct's field has its elements as tuples, and a slice has them as records: they have the same
+--                          machine values
 -- Assumes `Given`.
 use mathlib.Core.Path.{_≡_, refl, sym, _∙_, subst}
 use Prim.Native.Nat.{ℕ}
@@ -52,11 +55,21 @@ module _ (T : Declared) where
   pub rows-in : (n : ℕ) (xs : List (T .D)) (vs : List Val) → Is (Array (declared.row T) n) xs vs → Is (Array (declared.field T .row) n) (map (T .to) xs) vs
   rows-in n xs vs p = (p .0, ((p .1 .0 .0, length-map xs (T .to) ∙ p .1 .0 .1), each-in xs (p .0) (p .1 .1)))
 
--- ---- the first elements of an array
+-- ---- the first elements of an array: their slice, the lender's part of them, and the elements after them
+module _ {M : Type 1} {𝓤 : URA M} (R : RattleType) (xs : List (R .Denot)) (k b : ℕ) where
+  abbrev Front : ℕ → GName → Item 𝓤
+  Front α γ = ‵ (MutSlice (named 0) (α ∷ []) R .own (record { ptr = (b, 0); name = γ; now = take k xs }) (sliceVal (b, 0) (length (take k xs)) ∷ []))
+
+  abbrev Lender : ℕ → GName → Item 𝓤
+  Lender α γ = ‵ (flent (α ∷ []) (Held R (length (take k xs)) b 0 γ))
+
+  abbrev Rest : Item 𝓤
+  Rest = ‵ (cells (mem R) (after k xs) b (at 0 (mem R .size) (length (take k xs))))
+
 module _ {M : Type 1} {𝓤 : URA M} {H : Heap 𝓤} {A : Atoms 𝓤} {K : Type 0} {W : Given 𝓤 H A} {Γ : List (Item 𝓤)} {G : Goal 𝓤 H} where
-  pub lends-front : K → Soaks G → (R : RattleType) → Single (R .mir) → Makes 𝓤 H A R (Is R) → (n : ℕ) (xs : List (R .Denot)) (k : ℕ) (v : Val) (b : ℕ) → Is (Array R n) xs (v ∷ []) → Room R (length (take k xs))
-      → ((α : ℕ) (γ : GName) → Seq K W (‵ (flft (α ∷ []) fullShare) ∷ ‵ (MutSlice (named 0) (α ∷ []) R .own (record { ptr = (b, 0); name = γ; now = take k xs }) (sliceVal (b, 0) (length (take k xs)) ∷ []))
-      ∷ ‵ (flent (α ∷ []) (Held R (length (take k xs)) b 0 γ)) ∷ ‵ (cells (mem R) (after k xs) b (at 0 (mem R .size) (length (take k xs)))) ∷ Γ) G)
+  pub lends-front : K → Soaks G → (R : RattleType) → Single (R .mir) → Makes 𝓤 H A R (Is R)
+      → (n : ℕ) (xs : List (R .Denot)) (k : ℕ) (v : Val) (b : ℕ) → Is (Array R n) xs (v ∷ []) → Room R (length (take k xs))
+      → ((α : ℕ) (γ : GName) → Seq K W (‵ (flft (α ∷ []) fullShare) ∷ Front R xs k b α γ ∷ Lender R xs k b α γ ∷ Rest R xs k b ∷ Γ) G)
       → Seq K W (‵ (fat fullShare (tyArray (lone (R .mir)) n) b 0 v) ∷ Γ) G
   unfolding partOf
   lends-front t z R one mk n xs k v b is room go =
@@ -68,14 +81,15 @@ module _ {M : Type 1} {𝓤 : URA M} {H : Heap 𝓤} {A : Atoms 𝓤} {K : Type 
       fsplit t $ feqL t (λ len. use1 W (‵ (cells (mem R) xs b 0)) (whole-in 𝓤 H A W R xs b 0) $
       -- cut in two, and the first part lent
       rewrite t 0 (λ (l : List (R .Denot)). ‵ (cells (mem R) l b 0)) (sym (take-append-drop k xs)) refl $
-      use1 W (‵ (cells (mem R) (take k xs) b 0) ⊛ ‵ (cells (mem R) (after k xs) b (at 0 (mem R .size) (length (take k xs))))) (cut-app 𝓤 H A (mem R) (take k xs) (after k xs) b 0) $ split t $
+      use1 W (‵ (cells (mem R) (take k xs) b 0) ⊛ Rest R xs k b) (cut-app 𝓤 H A (mem R) (take k xs) (after k xs) b 0) $ split t $
       lft-new t z (λ α. move t (1 ∷ []) $
-      use1 W (later (some (λ (γ : GName). ‵ (MutSlice (named 0) (α ∷ []) R .own (record { ptr = (b, 0); name = γ; now = take k xs }) (sliceVal (b, 0) (length (take k xs)) ∷ [])) ⊛ ‵ (flent (α ∷ []) (Held R (length (take k xs)) b 0 γ)))))
-      (lends-slice 𝓤 H A W R (named 0) (α ∷ []) (take k xs) b 0 room) $ await t z $ pick t (λ γ. split t $ move t (2 ∷ []) $ go α γ)))
+      use1 W (later (some (λ (γ : GName). Front R xs k b α γ ⊛ Lender R xs k b α γ))) (lends-slice 𝓤 H A W R (named 0) (α ∷ []) (take k xs) b 0 room) $
+      await t z $ pick t (λ γ. split t $ move t (2 ∷ []) $ go α γ)))
 
-  pub fronts-back : K → Soaks G → (R : RattleType) (vals : List (R .Denot) → Val) (n : ℕ) → Tells (Array R n) (Is (Array R n)) (λ xs. vals xs ∷ []) → (xs ys : List (R .Denot)) (k b α : ℕ) (γ : GName) → length xs ≡ n → length ys ≡ length (take k xs)
+  pub fronts-back : K → Soaks G → (R : RattleType) (vals : List (R .Denot) → Val) (n : ℕ) → Tells (Array R n) (Is (Array R n)) (λ xs. vals xs ∷ [])
+      → (xs ys : List (R .Denot)) (k b α : ℕ) (γ : GName) → length xs ≡ n → length ys ≡ length (take k xs)
       → (Is (Array R n) (ys ++ after k xs) (vals (ys ++ after k xs) ∷ []) → Seq K W (‵ (fat fullShare (tyArray (lone (R .mir)) n) b 0 (vals (ys ++ after k xs))) ∷ Γ) G)
-      → Seq K W (‵ (flft (α ∷ []) fullShare) ∷ ‵ (finally R γ ys) ∷ ‵ (flent (α ∷ []) (Held R (length (take k xs)) b 0 γ)) ∷ ‵ (cells (mem R) (after k xs) b (at 0 (mem R .size) (length (take k xs)))) ∷ Γ) G
+      → Seq K W (‵ (flft (α ∷ []) fullShare) ∷ ‵ (finally R γ ys) ∷ Lender R xs k b α γ ∷ Rest R xs k b ∷ Γ) G
   unfolding partOf
   fronts-back t z R vals n tells xs ys k b α γ len same go =
       lft-end t z $ move t (0 ∷ 2 ∷ 1 ∷ []) $

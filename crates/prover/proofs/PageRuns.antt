@@ -17,7 +17,6 @@ use Rattle.ipl.specs.Book as B
 use Rattle.ipl.specs.Book.{Book, answer, refusal, numberOf, stepsAfter, taken, afterAnswer, entryBy, afterEntry, entriesFrom, entries, afterEntries, next}
 use Rattle.ipl.proofs.Lists.{tabulate-length, tabulate-at}
 use Rattle.ipl.proofs.Search.{OutcomeRight}
-use Rattle.ipl.proofs.Limits.{Fits}
 use Rattle.ipl.proofs.Book.{Reached, next-reached, answer-right}
 use Rattle.prover.specs.State.{worldsOf, book}
 use Rattle.prover.specs.InRange.{inRange}
@@ -26,10 +25,8 @@ use Rattle.prover.specs.Page.{goalsOf, pageNumber, recordAfter, foundIn,
 use Rattle.prover.specs.Demand.{PageReturned, RecordIs, RecordsAre, none as no-record, one-more, heldAs, heldBy, heldAfter, questionsAfter, questionsBy, pageTotal, PageIs}
 use Rattle.prover.specs.declared.Held.{Held}
 use Rattle.prover.specs.declared.Verdict.{Verdict}
-use Rattle.prover.specs.declared.GoalAnswer.{GoalAnswer}
 use Rattle.prover.specs.declared.GoalRecord.{GoalRecord}
 use Rattle.prover.specs.declared.Session.{Session}
-use Rattle.prover.specs.declared.Changed.{Changed}
 use Rattle.prover.specs.declared.Answered.{Answered}
 use Rattle.prover.proofs.Keeping.{Kept, asked-as, asked-kept}
 
@@ -123,10 +120,15 @@ module _ (i : ℕ) (x : GoalRecord) (s : Session) (a : Answered) where
   model-after (valid end) asked right = ap (λ (v : Verdict). foundIn i (recordAfter x v (a .session .worlds))) (asked .0 .verdict)
   model-after (refuted end) asked right =
       ap (λ (v : Verdict). foundIn i (recordAfter x v (a .session .worlds))) (asked .0 .verdict)
-      ∙ ap (λ (root : ℕ). record { place = i; root = root } ∷ []) (sym (tabulate-at (rowOf (a .session .worlds .sets)) 0 (a .session .worlds .count) 0 some-world) ∙ ap (λ (W : List ℕ). getD W 0 0) (asked .0 .shows))
+      ∙ ap (λ (root : ℕ). record { place = i; root = root } ∷ []) same-root
     where
       some-world : 0 < a .session .worlds .count
       some-world = omega (arith, right .right .refuting .some, ap length (asked .0 .shows), tabulate-length (rowOf (a .session .worlds .sets)) (a .session .worlds .count))
+
+      same-root : rowOf (a .session .worlds .sets) 0 ≡ getD (end .worlds) 0 0
+      same-root =
+          sym (tabulate-at (rowOf (a .session .worlds .sets)) 0 (a .session .worlds .count) 0 some-world)
+          ∙ ap (λ (W : List ℕ). getD W 0 0) (asked .0 .shows)
   model-after (refused number) asked right = ap (λ (v : Verdict). foundIn i (recordAfter x v (a .session .worlds))) (asked .0)
   model-after unfinished asked right = absurd (asked .0)
 

@@ -20,7 +20,6 @@ use Rattle.prover.specs.declared.Answered.{Answered}
 use Rattle.prover.specs.declared.GoalAnswer.the-variants.{RefutedBy}
 use Rattle.prover.specs.declared.GoalRecord.{GoalRecord}
 use Rattle.prover.specs.declared.Records.{Records}
-use Rattle.prover.specs.declared.Paged.{Paged}
 use Rattle.prover.specs.declared.paging.Models.{Models}
 use Rattle.prover.specs.declared.paging.Page.{Page}
 

@@ -1,9 +1,15 @@
--- The types of `page`'s and `page_of`'s locals that hold a session or many records, and their values, shut: the steps of a walk carry them along, and none computes what a session is made of. (Open, a turn's walk meets antt's step limit at a session of eight fields.)
---     sty, cty, pty, nty          the MIR types of Session, Changed, Page and Taken.        sval, cval, pval, nval      the values, as the machine has them.        SIs, CIs, PIs, NIs     that a value is of its type
+-- The types of `page`'s and `lend`'s locals that hold a session or many records, and their values, shut: the steps of a walk carry them along,
+-- and none computes what a session is made of. (Open, a turn's walk meets antt's step limit at a session of eight fields.)
+--     sty, cty, pty, nty          the MIR types of Session, Changed, Page and Taken
+--     sval, cval, pval, nval      the values, as the machine has them
+--     SIs, CIs, PIs, NIs          that a value is of its type
 --     aty, bty, gty, aval ..      the same of the array of records, of Records and of Paged
---     s-tells ..                  there is no other machine value.        s-typed ..        it is of the MIR type.        page-is, rec-is      of what a Taken is, its parts are
---     read-at, read-count, read-page, read-rec, read-used, read-rows      operands: the fields of a Page, a Taken and a Records that the walks read, by their places in the struct
---     make-records, make-paged    the values that `page_of` puts together.        rows-are, used-fits, records-are, paged-are      that they are of their types, and their parts
+--     c-tells ..                  there is no other machine value
+--     s-typed ..                  it is of the MIR type
+--     page-is, rec-is             of what a Taken is, its parts are
+--     read-at ..                  operands: the fields of a Page, a Taken and a Records that the walks read, by their places in the struct
+--     make-records, make-paged    the values that `lend` puts together
+--     rows-are .. paged-are       that they are of their types, and their parts
 -- Assumes nothing.
 use mathlib.Core.Path.{_≡_, refl, sym, subst}
 use Prim.Native.Nat.{ℕ, zero, _+_, _<_, _^_}
@@ -199,33 +205,40 @@ module _ {M : Type 1} {𝓤 : URA M} {H : Heap 𝓤} {A : Atoms 𝓤} (W : Given
 -- ---- the fields that the walk reads
 module _ {M : Type 1} {𝓤 : URA M} {H : Heap 𝓤} {A : Atoms 𝓤} {K : Type 0} {W : Given 𝓤 H A} {Γ : List (Item 𝓤)} {E : Env 𝓤 H} where
   -- local i is a struct, which entry n of the context holds: its field k
-  field-read : K → (n : ℕ) {i k l : ℕ} {ν : Sym} {τs : Tys} {vs : Vals} {τ : Ty} {d : ℕ} → spotOf 𝓤 H E i ≡ (tyStruct ν τs, l, 0) → nth 𝓤 H A n Γ ≡ ‵ (fat fullShare (tyStruct ν τs) l 0 (vstruct vs)) → fieldAt zero τs k ≡ some (τ, d)
+  field-read : K → (n : ℕ) {i k l : ℕ} {ν : Sym} {τs : Tys} {vs : Vals} {τ : Ty} {d : ℕ}
+      → spotOf 𝓤 H E i ≡ (tyStruct ν τs, l, 0) → nth 𝓤 H A n Γ ≡ ‵ (fat fullShare (tyStruct ν τs) l 0 (vstruct vs)) → fieldAt zero τs k ≡ some (τ, d)
       → Opd K W Γ E (copy (place i (field k ∷ []))) (getV vs k)
   field-read t n {i} {k} {l} {ν} {τs} {vs} {τ} {d} e f g =
       load t (from t (subst (λ (sp : Spot 𝓤 H). Walks K W Γ E sp (field k ∷ []) (τ, l, 0 + d)) (sym e) (fld t g (stop t))))
       (look-in t n (subst (λ (j : Item 𝓤). Part K W j fullShare τ l (0 + d) (getV vs k) (λ u. ‵ (fat fullShare (tyStruct ν τs) l 0 (vstruct (setV vs k u))))) (sym f) (sub t k g (whole t))))
 
-  pub read-count : K → (n : ℕ) {i l : ℕ} (p : Page) → spotOf 𝓤 H E i ≡ (pty, l, 0) → nth 𝓤 H A n Γ ≡ ‵ (fat fullShare pty l 0 (pval p)) → Opd K W Γ E (copy (place i (field 3 ∷ []))) (vint w64 (p .count))
+  pub read-count : K → (n : ℕ) {i l : ℕ} (p : Page) → spotOf 𝓤 H E i ≡ (pty, l, 0) → nth 𝓤 H A n Γ ≡ ‵ (fat fullShare pty l 0 (pval p))
+      → Opd K W Γ E (copy (place i (field 3 ∷ []))) (vint w64 (p .count))
   unfolding pty pval
   read-count t n p e f = field-read t n e f refl
 
-  pub read-at : K → (n : ℕ) {i l : ℕ} (p : Page) → spotOf 𝓤 H E i ≡ (pty, l, 0) → nth 𝓤 H A n Γ ≡ ‵ (fat fullShare pty l 0 (pval p)) → Opd K W Γ E (copy (place i (field 4 ∷ []))) (vint w64 (p .at))
+  pub read-at : K → (n : ℕ) {i l : ℕ} (p : Page) → spotOf 𝓤 H E i ≡ (pty, l, 0) → nth 𝓤 H A n Γ ≡ ‵ (fat fullShare pty l 0 (pval p))
+      → Opd K W Γ E (copy (place i (field 4 ∷ []))) (vint w64 (p .at))
   unfolding pty pval
   read-at t n p e f = field-read t n e f refl
 
-  pub read-page : K → (n : ℕ) {i l : ℕ} (u : Taken) → spotOf 𝓤 H E i ≡ (nty, l, 0) → nth 𝓤 H A n Γ ≡ ‵ (fat fullShare nty l 0 (nval u)) → Opd K W Γ E (copy (place i (field 0 ∷ []))) (pval (u .page))
+  pub read-page : K → (n : ℕ) {i l : ℕ} (u : Taken) → spotOf 𝓤 H E i ≡ (nty, l, 0) → nth 𝓤 H A n Γ ≡ ‵ (fat fullShare nty l 0 (nval u))
+      → Opd K W Γ E (copy (place i (field 0 ∷ []))) (pval (u .page))
   unfolding nty nval pval
   read-page t n u e f = field-read t n e f refl
 
-  pub read-rec : K → (n : ℕ) {i l : ℕ} (u : Taken) → spotOf 𝓤 H E i ≡ (nty, l, 0) → nth 𝓤 H A n Γ ≡ ‵ (fat fullShare nty l 0 (nval u)) → Opd K W Γ E (copy (place i (field 1 ∷ []))) (rval (u .rec))
+  pub read-rec : K → (n : ℕ) {i l : ℕ} (u : Taken) → spotOf 𝓤 H E i ≡ (nty, l, 0) → nth 𝓤 H A n Γ ≡ ‵ (fat fullShare nty l 0 (nval u))
+      → Opd K W Γ E (copy (place i (field 1 ∷ []))) (rval (u .rec))
   unfolding nty nval
   read-rec t n u e f = field-read t n e f refl
 
-  pub read-used : K → (n : ℕ) {i l : ℕ} (b : Records) → spotOf 𝓤 H E i ≡ (bty, l, 0) → nth 𝓤 H A n Γ ≡ ‵ (fat fullShare bty l 0 (bval b)) → Opd K W Γ E (copy (place i (field 0 ∷ []))) (vint w64 (b .count))
+  pub read-used : K → (n : ℕ) {i l : ℕ} (b : Records) → spotOf 𝓤 H E i ≡ (bty, l, 0) → nth 𝓤 H A n Γ ≡ ‵ (fat fullShare bty l 0 (bval b))
+      → Opd K W Γ E (copy (place i (field 0 ∷ []))) (vint w64 (b .count))
   unfolding bty bval
   read-used t n b e f = field-read t n e f refl
 
-  pub read-rows : K → (n : ℕ) {i l : ℕ} (b : Records) → spotOf 𝓤 H E i ≡ (bty, l, 0) → nth 𝓤 H A n Γ ≡ ‵ (fat fullShare bty l 0 (bval b)) → Opd K W Γ E (copy (place i (field 1 ∷ []))) (aval (b .rows))
+  pub read-rows : K → (n : ℕ) {i l : ℕ} (b : Records) → spotOf 𝓤 H E i ≡ (bty, l, 0) → nth 𝓤 H A n Γ ≡ ‵ (fat fullShare bty l 0 (bval b))
+      → Opd K W Γ E (copy (place i (field 1 ∷ []))) (aval (b .rows))
   unfolding bty bval aval
   read-rows t n b e f = field-read t n e f refl
 

@@ -15,10 +15,9 @@ use Rattle.ipl.specs.Range.{atomOrBot}
 use Rattle.ipl.specs.Page.{goalTable, Found}
 use Rattle.ipl.specs.Book.{pageRefusal}
 use Rattle.ipl.proofs.Lists.{all-snoc, all-All, All-at}
-use Rattle.prover.specs.State.{book}
 use Rattle.prover.specs.InRange.{inRange}
 use Rattle.prover.specs.Page.{goalsOf, listNumber, pageNumber, foundIn, modelRow, modelsOf, GoalDone, GoalsDone, PageAnswered}
-use Rattle.prover.specs.Paging.{PageBegun, placedAt, judged, wentOn, RecordAnswered, TakenBy, RecordTaken}
+use Rattle.prover.specs.Paging.{PageBegun, placedAt, goalRefused, judged, wentOn, RecordAnswered, TakenBy, RecordTaken}
 use Rattle.prover.specs.declared.Session.{Session}
 use Rattle.prover.specs.declared.GoalRecord.{GoalRecord}
 use Rattle.prover.specs.declared.paging.Models.{Models}
@@ -129,15 +128,13 @@ begun-empty s p h in-range none = record {
 pub begun-underway : (s : Session) (xs : List GoalRecord) (p : Page) → PageBegun s (length xs) p → Underway s xs p xs
 begun-underway s xs p h = by-tests (inRange s) (leb (length xs) goalTable) refl refl xs refl
   where
-    five : inRange s ≡ false → (zs : List GoalRecord) → zs ≡ xs → Underway s xs p xs
-    five out zs e = refused (begun-refused s xs p h 5 (λ z. omega arith) (rw out) (rw out))
-
     by-tests : (b l : Bool) → inRange s ≡ b → leb (length xs) goalTable ≡ l → (zs : List GoalRecord) → zs ≡ xs → Underway s xs p xs
-    by-tests false l out few zs e = five out zs e
+    by-tests false l out few zs e = refused (begun-refused s xs p h 5 (λ z. omega arith) (rw out) (rw out))
     by-tests true false in-range many zs e =
         refused (begun-refused s xs p h 19 (λ z. omega arith) (rw (in-range, many)) (number-is s xs true false (all (atomOrBot (s .n)) (goalsOf xs)) in-range many refl))
     by-tests true true in-range few [] e =
-        subst (λ (xs : List GoalRecord). Underway s xs p xs) e (answering (begun-empty s p (subst (λ (xs : List GoalRecord). PageBegun s (length xs) p) (sym e) h) in-range (h .refused ∙ rw (in-range, few))))
+        let empty : PageBegun s 0 p = subst (λ (xs : List GoalRecord). PageBegun s (length xs) p) (sym e) h in
+        subst (λ (xs : List GoalRecord). Underway s xs p xs) e (answering (begun-empty s p empty in-range (h .refused ∙ rw (in-range, few))))
     by-tests true true in-range few (z ∷ zs) e =
         judging (begun-judging s xs p h in-range (leb-true (length xs) goalTable few) (h .refused ∙ rw (in-range, few)) (omega (arith, ap length e)))
 
@@ -306,7 +303,7 @@ module _ (s : Session) (xs zs : List GoalRecord) (p : Page) (l : p .at < p .coun
 -- There is less to take.
 module _ (p : Page) (l : p .at < p .count) (x : GoalRecord) (t : Taken) where
   less-by : p .judged ≡ false → (b m : Bool) → ltb (p .at + 1) (p .count) ≡ m
-      → left (cond b (cond m (placedAt p (p .at + 1) (p .judged)) (placedAt p 0 true)) (record { session = p .session; models = p .models; refusal = 6; count = 0; at = p .at; judged = p .judged })) < left p
+      → left (cond b (cond m (placedAt p (p .at + 1) (p .judged)) (placedAt p 0 true)) (goalRefused p)) < left p
   less-by e false m q = rw e (omega (arith, l))
   less-by e true true q = rw e (omega (arith, l, ltb-true (p .at + 1) (p .count) q))
   less-by e true false q = rw e (omega (arith, l))

@@ -21,14 +21,16 @@ pub record PageBegun (s : Session) (count : ℕ) (p : Page) : Type 0 where
   pub first : p .at ≡ 0
   pub unjudged : p .judged ≡ false
 
--- The page where a goal was judged: 6, the next goal's turn, or, after the last, that of the first to be answered.
 abbrev pub placedAt : Page → ℕ → Bool → Page
 placedAt p at judged = record { session = p .session; models = p .models; refusal = p .refusal; count = p .count; at = at; judged = judged }
 
+abbrev pub goalRefused : Page → Page
+goalRefused p = record { session = p .session; models = p .models; refusal = 6; count = 0; at = p .at; judged = p .judged }
+
+-- The page where a goal was judged: 6, the next goal's turn, or, after the last, that of the first to be answered.
 abbrev pub judged : Page → ℕ → Page
 judged p g =
-    cond (atomOrBot (p .session .n) g) (cond (ltb (p .at + 1) (p .count)) (placedAt p (p .at + 1) (p .judged)) (placedAt p 0 true))
-    (record { session = p .session; models = p .models; refusal = 6; count = 0; at = p .at; judged = p .judged })
+    cond (atomOrBot (p .session .n) g) (cond (ltb (p .at + 1) (p .count)) (placedAt p (p .at + 1) (p .judged)) (placedAt p 0 true)) (goalRefused p)
 
 -- The page where a goal was answered.
 abbrev pub wentOn : Page → Session → Models → Page

@@ -17,7 +17,8 @@ use Rattle.script.specs.Words.{space, split, wordsOf, unindented}
 use Rattle.script.specs.Numbers.{bytesIn}
 use Rattle.script.specs.Command.{Command, Line, silent, readText, callBook, tellLength, writeSheet, checkSheet, command, noCall}
 use Rattle.script.specs.Command.{same, verbOf, argument, end, goalsIn, sheetArgument, commandBy, commandFrom, commandIn, hash, isBlank, isComment, longestCall, orNone, lineOf}
-use Rattle.script.specs.Language.{Says, opens, reads, reads-nothing, adds-flat, adds-implication, asks, pages, sets-mark, returns-to, tells, writes, checks, checks-nothing, CallsAreSaid, OneCall}
+use Rattle.script.specs.Language.{Says, opens, reads, reads-nothing, adds-flat, adds-implication, asks, pages, sets-mark, returns-to, tells, writes, checks, checks-nothing}
+use Rattle.script.specs.Language.{CallsAreSaid, OneCall}
 use Rattle.script.specs.declared.reading.Verb.{Verb}
 use Rattle.script.specs.declared.reading.Verb.the-variants.{Open, Text, Flat, Implication, Ask, Page, Mark, Return, Length, Sheet, Check, Other}
 use Rattle.script.proofs.Splitting.{words-unindented, first-word, indented, unindented-more, first, behind-first, second-word}

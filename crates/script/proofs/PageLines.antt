@@ -19,7 +19,6 @@ use Rattle.ipl.proofs.Search.{OutcomeRight}
 use Rattle.ipl.proofs.Limits.{Fits, Ended}
 use Rattle.ipl.proofs.Page.{earliest-found, entry-kept}
 use Rattle.ipl.proofs.Book.{Reached, answer-right, question-ended, question-reached}
-use Rattle.prover.specs.State.{worldsOf}
 use Rattle.prover.specs.Page.{goalsOf}
 use Rattle.prover.specs.Demand.{RecordIs, RecordsAre, none, one-more}
 use Rattle.prover.specs.declared.GoalAnswer.{GoalAnswer}
@@ -53,7 +52,9 @@ pub lines-next : (rows : List GoalRecord) (i : ℕ) (d : GoalRecord) → i < len
     → recordsLines 0 (take i rows) ++ recordLines i (getD rows i d) ≡ recordsLines 0 (take (i + 1) rows)
 lines-next rows i d l =
     let one-more : i + 1 ≡ suc i = omega arith in
-    sym (rw (one-more, take-suc rows i d l) (lines-snoc 0 (take i rows) (getD rows i d) ∙ ap (λ (j : ℕ). recordsLines 0 (take i rows) ++ recordLines j (getD rows i d)) (omega (arith, length-take-le i rows (omega arith)))))
+    let place : 0 + length (take i rows) ≡ i = omega (arith, length-take-le i rows (omega arith)) in
+    sym (rw (one-more, take-suc rows i d l) (lines-snoc 0 (take i rows) (getD rows i d)
+    ∙ ap (λ (j : ℕ). recordsLines 0 (take i rows) ++ recordLines j (getD rows i d)) place))
 
 -- ---- records and entries
 

@@ -10,7 +10,8 @@ use Rattle.ipl.specs.Book.{addFlat, addImplication, add, question, setMark, ret
 use Rattle.prover.specs.Calls.{flatOf}
 use Rattle.script.specs.Numbers.{paired}
 use Rattle.script.specs.Words.{wordsOf}
-use Rattle.script.specs.Command.{Command, Line, silent, command, noCall, openSession, readText, callBook, tellLength, writeSheet, checkSheet, byteIn, argument, end, goalsIn, commandBy, orNone, lineOf}
+use Rattle.script.specs.Command.{Command, Line, silent, command, noCall, openSession, readText, callBook, tellLength, writeSheet, checkSheet}
+use Rattle.script.specs.Command.{byteIn, argument, end, goalsIn, commandBy, orNone, lineOf}
 use Rattle.script.specs.Places.{between, byteOf}
 use Rattle.script.specs.declared.numbers.Byte.{Byte}
 use Rattle.script.specs.declared.reading.Goals.{Goals}

@@ -1,5 +1,5 @@
--- `prover::lend` meets its contract: a walk of its MIR, by hand. The rows are a local array; its first part is lent to `page` for a lifetime that is made and ended here (proofs/Lending.antt), and the whole is put together again.
--- Of `page` it uses the contract only. Assumes nothing.
+-- `prover::lend` meets its contract: a walk of its MIR, by hand. The rows are a local array; its first part is lent to `page` for a lifetime
+-- that is made and ended here (proofs/Lending.antt), and the whole is put together again. Of `page` it uses the contract only. Assumes nothing.
 use mathlib.Core.Path.{_≡_, refl, sym, _∙_, ap, subst}
 use Prim.Native.Nat.{ℕ, _+_, _≤_}
 use native.Mathlib.Omega.{arith}
@@ -19,8 +19,9 @@ use prog.Wp.{Heap, Env, Wp, WpFn, Tables, atReturn}
 use ghost.Atoms.{Atoms}
 use contract.Monad.{Fun, fact}
 use contract.Running.{givenOf, tables, tablesOf}
-use types.Kit.{Given, Item, ‵, raw, _⊛_, some, given, later, mean, ⋆, atRet, _$_, _∵_, !, qed, by, move, keep, drop, use1, use2, split, split3, join, pick, learn, rewrite, fsplit, fjoin, feqL, suffices, show, check, await, updating, now as at-once, done}
-use types.Run.{look, init, forget, stop, from, load, of-opd, addr, and-then, no-more, assigns, land, exec, returns, enter, alloc1, alloc0, params1, pass1, pass0, free1, free0}
+use types.Kit.{Given, Item, ‵, raw, _⊛_, some, given, later, mean, ⋆, atRet, _$_, _∵_, !, qed, by, done}
+use types.Kit.{move, keep, drop, use1, use2, split, split3, join, pick, learn, rewrite, fsplit, fjoin, feqL, suffices, show, check, await, updating, now as at-once}
+use types.Run.{look, init, forget, stop, from, of-opd, addr, and-then, no-more, assigns, land, exec, returns, enter, alloc1, alloc0, params1, pass1, pass0, free1, free0}
 use types.Part.{agg}
 use sound.WpLaws.{WpFn-mono, fmOf}
 use denote.Memory.{pointee}
@@ -45,8 +46,10 @@ use Rattle.prover.specs.declared.Changed.{Changed}
 use Rattle.prover.specs.declared.GoalRecord.{GoalRecord}
 use Rattle.prover.specs.declared.Records.{Records}
 use Rattle.prover.specs.declared.Paged.{Paged}
+use Rattle.prover.proofs.Walking.{reads}
 use Rattle.prover.proofs.Lending.{lends-front, fronts-back}
-use Rattle.prover.proofs.Shut.{rowCount, sty, cty, aty, bty, gty, sval, cval, aval, bval, gval, SIs, CIs, AIs, BIs, GIs, c-tells, a-tells, rows-are, used-fits, records-are, paged-are, s-typed, c-typed, a-typed, b-typed, g-typed, read-used, read-rows, make-records, make-paged}
+use Rattle.prover.proofs.Shut.{rowCount, sty, cty, aty, bty, gty, sval, cval, aval, bval, gval, SIs, CIs, AIs, BIs, GIs, c-tells, a-tells}
+use Rattle.prover.proofs.Shut.{rows-are, used-fits, records-are, paged-are, s-typed, c-typed, a-typed, b-typed, g-typed, read-used, read-rows, make-records, make-paged}
 use Rattle.prover.proofs.Session as S
 use Rattle.prover.proofs.Session.Laws as S′
 use Rattle.prover.proofs.Changed as C
@@ -84,7 +87,9 @@ with-body body = record {
   lifetimes = 0;
   outlives = [];
   params = 2;
-  locals = local gty valueLocal ∷ local bty valueLocal ∷ local sty valueLocal ∷ local aty memorySlot ∷ local cty valueLocal ∷ local ref valueLocal ∷ local slice valueLocal ∷ local aty valueLocal ∷ local bty valueLocal ∷ [];
+  locals =
+      local gty valueLocal ∷ local bty valueLocal ∷ local sty valueLocal ∷ local aty memorySlot ∷ local cty valueLocal ∷ local ref valueLocal
+      ∷ local slice valueLocal ∷ local aty valueLocal ∷ local bty valueLocal ∷ [];
   body = body;
 }
 
@@ -164,8 +169,10 @@ module _ {M : Type 1} (𝓤 : URA M) (H : Heap 𝓤) (A : Atoms 𝓤) (W : Given
       came : (v : Val) → ent 𝓤 (Page .post to-page v) (mean 𝓤 H A (later (some (λ (c : Changed). some (Came v c)))))
       came v =
           qed W (raw (Page .post to-page v) ∷ []) ∵ updating ! $
-          use1 W (later (some (λ (c : Changed). ((‵ (flft (α ∷ []) fullShare) ⊛ ‵ ftrue) ⊛ ‵ (C.the-row .own c (v ∷ []))) ⊛ raw (Ended c)))) (id⊢ 𝓤 _) $ await ! tt $ pick ! (λ c. split ! $ move ! (1 ∷ []) $
-          use1 W (some (Last c)) (of-page c) $ pick ! (λ zs. split3 ! $ move ! (1 ∷ []) $ feqL ! (λ same. move ! (1 ∷ []) $ heard ! (PageAnswered s₀ xs zs c) (λ said. move ! (1 ∷ []) $ split ! $ move ! (1 ∷ []) $
+          use1 W (later (some (λ (c : Changed). ((‵ (flft (α ∷ []) fullShare) ⊛ ‵ ftrue) ⊛ ‵ (C.the-row .own c (v ∷ []))) ⊛ raw (Ended c)))) (id⊢ 𝓤 _) $
+          await ! tt $ pick ! (λ c. split ! $ move ! (1 ∷ []) $
+          use1 W (some (Last c)) (of-page c) $ pick ! (λ zs. split3 ! $ move ! (1 ∷ []) $ feqL ! (λ same. move ! (1 ∷ []) $
+          heard ! (PageAnswered s₀ xs zs c) (λ said. move ! (1 ∷ []) $ split ! $ move ! (1 ∷ []) $
           facts ! C.the-row (Is C.the-row) (shows 𝓤 H A C.the-row) c (v ∷ []) (λ is. split ! $ keep ! (0 ∷ 2 ∷ []) $ at-once ! $
           show ! (λ (c′ : Changed). ex 𝓤 (λ (zs′ : List GoalRecord). mean 𝓤 H A (Came v c′ zs′))) c $ show ! (λ (zs′ : List GoalRecord). mean 𝓤 H A (Came v c zs′)) zs $
           check ! (ap only (c-tells c (v ∷ []) is), subst (Is C.the-row c) (c-tells c (v ∷ []) is) is, same, said) $ done !)))))
@@ -176,8 +183,11 @@ module _ {M : Type 1} (𝓤 : URA M) (H : Heap 𝓤) (A : Atoms 𝓤) (W : Given
 
       -- what stands once the parameters are passed: local k at 16 - 2 * k, and after each that it dies
       abbrev Begun : List (Item 𝓤)
-      Begun = ‵ (froom bty l₈ 0) ∷ ‵ (fdies bty l₈) ∷ ‵ (froom aty l₇ 0) ∷ ‵ (fdies aty l₇) ∷ ‵ (froom slice l₆ 0) ∷ ‵ (fdies slice l₆) ∷ ‵ (froom ref l₅ 0) ∷ ‵ (fdies ref l₅) ∷ ‵ (froom cty l₄ 0) ∷ ‵ (fdies cty l₄)
-          ∷ ‵ (froom aty l₃ 0) ∷ ‵ (fdies aty l₃) ∷ ‵ (fat fullShare sty l₂ 0 (sval s₀)) ∷ ‵ (fdies sty l₂) ∷ ‵ (fat fullShare bty l₁ 0 (bval b)) ∷ ‵ (fdies bty l₁) ∷ ‵ (froom gty l₀ 0) ∷ ‵ (fdies gty l₀) ∷ []
+      Begun =
+          ‵ (froom bty l₈ 0) ∷ ‵ (fdies bty l₈) ∷ ‵ (froom aty l₇ 0) ∷ ‵ (fdies aty l₇) ∷ ‵ (froom slice l₆ 0) ∷ ‵ (fdies slice l₆)
+          ∷ ‵ (froom ref l₅ 0) ∷ ‵ (fdies ref l₅) ∷ ‵ (froom cty l₄ 0) ∷ ‵ (fdies cty l₄) ∷ ‵ (froom aty l₃ 0) ∷ ‵ (fdies aty l₃)
+          ∷ ‵ (fat fullShare sty l₂ 0 (sval s₀)) ∷ ‵ (fdies sty l₂) ∷ ‵ (fat fullShare bty l₁ 0 (bval b)) ∷ ‵ (fdies bty l₁)
+          ∷ ‵ (froom gty l₀ 0) ∷ ‵ (fdies gty l₀) ∷ []
 
       begun : ent 𝓤 (⋆ 𝓤 H A Begun) (Wp 𝓤 H (𝓣 .C) (𝓣 .Λ) En mir′.t-1 (atReturn 𝓤 H En Post))
       unfolding aty
@@ -186,21 +196,26 @@ module _ {M : Type 1} (𝓤 : URA M) (H : Heap 𝓤) (A : Atoms 𝓤) (W : Given
           -- the rows, their place, and the slice of the first of them
           assigns ! (of-opd ! (read-rows ! 14 b refl refl)) (from ! (stop !)) (init ! 10 refl (a-typed W (b .rows) (rows-are b b-is))) $
           assigns ! (addr ! (from ! (stop !))) (from ! (stop !)) (init ! 6 refl (tt, tt)) $
-          assigns ! (agg ! (and-then ! (load ! (from ! (stop !)) (look ! 6 refl)) (and-then ! (read-used ! 14 b refl refl) (no-more !)))) (from ! (stop !)) (init ! 4 refl (tt, (tt, (record { fits = used-fits b b-is }, tt)))) $
+          assigns ! (agg ! (and-then ! (reads ! 6 refl) (and-then ! (read-used ! 14 b refl refl) (no-more !)))) (from ! (stop !))
+          (init ! 4 refl (tt, (tt, (record { fits = used-fits b b-is }, tt)))) $
           rewrite ! 4 (λ (m : ℕ). ‵ (fat fullShare slice l₆ 0 (sliceVal (l₃, 0) m))) (sym xs-length) refl $
-          move ! (10 ∷ []) $ lends-front ! tt R.the-row tt (LL.makes R.the-type R′.the-plain 𝓤 H A) rowCount (b .rows) (b .count) (aval (b .rows)) l₃ (rows-are b b-is) (room-of (b .count) (length xs) xs-length few) (λ α γ.
+          move ! (10 ∷ []) $ lends-front ! tt R.the-row tt (LL.makes R.the-type R′.the-plain 𝓤 H A) rowCount (b .rows) (b .count) (aval (b .rows)) l₃
+          (rows-are b b-is) (room-of (b .count) (length xs) xs-length few) (λ α γ.
           -- [what `page` takes; the lender's part; the rest; _8 at 3; _7 at 5; _6 at 7; _5 at 9; _4 at 11; _2 at 14; _1 at 16; _0 at 18]
           use2 W (raw (Page .pre (to-page l₃ α γ))) (goes-page l₃ α γ) $
-          calls-at ! (fmOf 𝓤 H (W .laws) 𝓣) Page pages (to-page l₃ α γ) (and-then ! (load ! (from ! (stop !)) (look ! 7 refl)) (and-then ! (load ! (from ! (stop !)) (look ! 14 refl)) (no-more !))) (λ v.
+          calls-at ! (fmOf 𝓤 H (W .laws) 𝓣) Page pages (to-page l₃ α γ) (and-then ! (reads ! 7 refl) (and-then ! (reads ! 14 refl) (no-more !))) (λ v.
           use1 W (later (some (λ (c : Changed). some (Came l₃ α γ v c)))) (came l₃ α γ v) $ await ! tt $ pick ! (λ c. pick ! (λ zs. learn ! (λ known. split ! $
           -- [the token; what the slice ended as; the lender's part; the rest; _8 at 4; …; _4 at 12; …]
-          land ! (from ! (stop !)) (init ! 12 refl (subst (λ (u : Val). T (hasTy cty u) × WT u) (sym (known .0)) (c-typed W c (known .1)))) $ rewrite ! 12 (λ (u : Val). ‵ (fat fullShare cty l₄ 0 u)) (known .0) refl $
+          land ! (from ! (stop !)) (init ! 12 refl (subst (λ (u : Val). T (hasTy cty u) × WT u) (sym (known .0)) (c-typed W c (known .1)))) $
+          rewrite ! 12 (λ (u : Val). ‵ (fat fullShare cty l₄ 0 u)) (known .0) refl $
           fronts-back ! tt R.the-row aval rowCount a-tells (b .rows) zs (b .count) l₃ α γ rows-length (known .2) (λ a-is.
           -- [_3; _8 at 1; _7 at 3; _6 at 5; _5 at 7; _4 at 9; that _3 dies at 11; _2 at 12; _1 at 14; _0 at 16]
-          assigns ! (of-opd ! (load ! (from ! (stop !)) (look ! 0 refl))) (from ! (stop !)) (init ! 3 refl (a-typed W (zs ++ rest) a-is)) $
-          assigns ! (make-records ! (out c zs .records) (read-used ! 14 b refl refl) (load ! (from ! (stop !)) (look ! 3 refl))) (from ! (stop !)) (init ! 1 refl (b-typed W (out c zs .records) (out-records c zs a-is))) $
-          assigns ! (make-paged ! (out c zs) (load ! (from ! (stop !)) (look ! 9 refl)) (load ! (from ! (stop !)) (look ! 1 refl))) (from ! (stop !)) (init ! 16 refl (g-typed W (out c zs) (out-is c zs a-is (known .1)))) $
-          returns ! (look ! 16 refl) $ forget ! 0 refl $ forget ! 1 refl $ forget ! 3 refl $ forget ! 5 refl $ forget ! 7 refl $ forget ! 9 refl $ forget ! 12 refl $ forget ! 14 refl $ forget ! 16 refl $
+          assigns ! (of-opd ! (reads ! 0 refl)) (from ! (stop !)) (init ! 3 refl (a-typed W (zs ++ rest) a-is)) $
+          assigns ! (make-records ! (out c zs .records) (read-used ! 14 b refl refl) (reads ! 3 refl)) (from ! (stop !))
+          (init ! 1 refl (b-typed W (out c zs .records) (out-records c zs a-is))) $
+          assigns ! (make-paged ! (out c zs) (reads ! 9 refl) (reads ! 1 refl)) (from ! (stop !)) (init ! 16 refl (g-typed W (out c zs) (out-is c zs a-is (known .1)))) $
+          returns ! (look ! 16 refl) $
+          forget ! 0 refl $ forget ! 1 refl $ forget ! 3 refl $ forget ! 5 refl $ forget ! 7 refl $ forget ! 9 refl $ forget ! 12 refl $ forget ! 14 refl $ forget ! 16 refl $
           move ! (16 ∷ 17 ∷ []) $ free1 ! $ move ! (14 ∷ 15 ∷ []) $ free1 ! $ move ! (12 ∷ 13 ∷ []) $ free1 ! $ move ! (0 ∷ 11 ∷ []) $ free1 ! $
           move ! (8 ∷ 9 ∷ []) $ free1 ! $ move ! (6 ∷ 7 ∷ []) $ free1 ! $ move ! (4 ∷ 5 ∷ []) $ free1 ! $ move ! (2 ∷ 3 ∷ []) $ free1 ! $ free1 ! $ free0 ! $
           by ! (exits (out c zs) (out-is c zs a-is (known .1)) (paged-as c zs (known .2) (known .3)))))))))

@@ -1,5 +1,6 @@
--- `prover::page` meets its contract: a walk of its MIR, by hand. The borrow of the slice is opened before the loop and closed after it; in a turn one record is taken out of the row, read whole, and another put in its place.
--- Of the contracts it uses the laws of proofs/Underway.antt only: it does not know how `at` moves, nor what the fields of a record are. Assumes nothing.
+-- `prover::page` meets its contract: a walk of its MIR, by hand. The borrow of the slice is opened before the loop and closed after it; in a
+-- turn one record is taken out of the row, read whole, and another put in its place. Of the contracts it uses the laws of
+-- proofs/Underway.antt only: it does not know how `at` moves, nor what the fields of a record are. Assumes nothing.
 use mathlib.Core.Path.{_≡_, refl, sym, ap, subst}
 use mathlib.Core.WellFounded.{InvImage·wf}
 use Prim.Native.Nat.{ℕ, _*_, _<_, _^_}
@@ -23,7 +24,8 @@ use ghost.Atoms.{Atoms, sem}
 use contract.Monad.{Fun, fact}
 use contract.Running.{givenOf, tables, tablesOf}
 use types.Kit.{Given, Item, Sq, ‵, _⊛_, ⋆, anyQ, atRet, runs, _$_, _∵_, !, qed, by, move, keep, drop, split, join, rewrite, fsplit, fjoin, suffices, frame, done}
-use types.Run.{look, look-raw, init, store, store-raw, forget, stop, hop, fld, from, load, of-opd, bin, and-then, no-more, assigns, assigns-last, land, first, blocks, stays, leaves-loop, exec, loops, again, Below, returns, enter, alloc1, alloc0, params1, pass1, pass0, free1, free0}
+use types.Run.{look, look-raw, init, store, store-raw, forget, stop, hop, fld, from, load, of-opd, bin, and-then, no-more, assigns, assigns-last, land}
+use types.Run.{first, blocks, stays, leaves-loop, exec, loops, again, Below, returns, enter, alloc1, alloc0, params1, pass1, pass0, free1, free0}
 use types.Part.{whole, sub, look-in}
 use sound.WpLaws.{WpFn-mono, fmOf}
 use denote.RattleType.{owns}
@@ -54,9 +56,10 @@ use Rattle.prover.specs.declared.Changed.{Changed}
 use Rattle.prover.specs.declared.GoalRecord.{GoalRecord}
 use Rattle.prover.specs.declared.paging.Page.{Page}
 use Rattle.prover.specs.declared.paging.Taken.{Taken}
-use Rattle.prover.proofs.Walking.{big-lit, calls-for}
+use Rattle.prover.proofs.Walking.{reads, big-lit, calls-for}
 use Rattle.prover.proofs.Underway.{Underway, left, begun-underway, underway-length, underway-inside, underway-room, taken-underway, taken-fewer, underway-ended}
-use Rattle.prover.proofs.Shut.{sty, cty, pty, nty, sval, cval, pval, nval, rval, SIs, CIs, PIs, RIs, c-tells, p-tells, n-tells, page-is, rec-is, s-typed, c-typed, p-typed, n-typed, r-typed, read-count, read-at, read-page, read-rec}
+use Rattle.prover.proofs.Shut.{sty, cty, pty, nty, sval, cval, pval, nval, rval, SIs, CIs, PIs, NIs, RIs, c-tells, p-tells, n-tells, page-is, rec-is}
+use Rattle.prover.proofs.Shut.{s-typed, c-typed, p-typed, n-typed, r-typed, read-count, read-at, read-page, read-rec}
 use Rattle.prover.proofs.Session as S
 use Rattle.prover.proofs.Session.Laws as S′
 use Rattle.prover.proofs.Changed as C
@@ -120,7 +123,10 @@ with-body body = record {
   lifetimes = 1;
   outlives = [];
   params = 2;
-  locals = local cty valueLocal ∷ local slice valueLocal ∷ local sty valueLocal ∷ local pty valueLocal ∷ local (tyInt w64) valueLocal ∷ local nty valueLocal ∷ local (tyInt w64) valueLocal ∷ local tyBool valueLocal ∷ local (tyInt w64) valueLocal ∷ local tyPtr valueLocal ∷ local R′.mir valueLocal ∷ local tyPtr valueLocal ∷ [];
+  locals =
+      local cty valueLocal ∷ local slice valueLocal ∷ local sty valueLocal ∷ local pty valueLocal ∷ local (tyInt w64) valueLocal ∷ local nty valueLocal
+      ∷ local (tyInt w64) valueLocal ∷ local tyBool valueLocal ∷ local (tyInt w64) valueLocal ∷ local tyPtr valueLocal ∷ local R′.mir valueLocal
+      ∷ local tyPtr valueLocal ∷ [];
   body = body;
 }
 
@@ -224,8 +230,11 @@ module _ {M : Type 1} (𝓤 : URA M) (H : Heap 𝓤) (A : Atoms 𝓤) (W : Given
 
       -- [the row; the open borrow; obs; auth; _0 to _11; that each of them dies]: local k stands at 4 + k
       abbrev Inv : Turn → List (Item 𝓤)
-      Inv t = ‵ (row R.the-row fullShare (t .zs) b o) ∷ ‵ (fobor κ q (Held R.the-row n b o γ)) ∷ ‵ (fobs γ (codedHoleys R.the-row .code (heres R.the-row xs))) ∷ ‵ (fauth γ (codedHoleys R.the-row .code (heres R.the-row xs)))
-          ∷ ‵ (froom cty l₀ 0) ∷ ‵ (fat fullShare slice l₁ 0 (sliceVal (b, o) n)) ∷ ‵ (fat fullShare sty l₂ 0 (sval s₀)) ∷ ‵ (fat fullShare pty l₃ 0 (pval (t .p))) ∷ ‵ (froom (tyInt w64) l₄ 0) ∷ ‵ (froom nty l₅ 0)
+      Inv t =
+          ‵ (row R.the-row fullShare (t .zs) b o) ∷ ‵ (fobor κ q (Held R.the-row n b o γ))
+          ∷ ‵ (fobs γ (codedHoleys R.the-row .code (heres R.the-row xs))) ∷ ‵ (fauth γ (codedHoleys R.the-row .code (heres R.the-row xs)))
+          ∷ ‵ (froom cty l₀ 0) ∷ ‵ (fat fullShare slice l₁ 0 (sliceVal (b, o) n)) ∷ ‵ (fat fullShare sty l₂ 0 (sval s₀))
+          ∷ ‵ (fat fullShare pty l₃ 0 (pval (t .p))) ∷ ‵ (froom (tyInt w64) l₄ 0) ∷ ‵ (froom nty l₅ 0)
           ∷ ‵ (froom (tyInt w64) l₆ 0) ∷ ‵ (froom tyBool l₇ 0) ∷ ‵ (froom (tyInt w64) l₈ 0) ∷ ‵ (froom tyPtr l₉ 0) ∷ ‵ (froom R′.mir l₁₀ 0) ∷ ‵ (froom tyPtr l₁₁ 0)
           ∷ ‵ (fdies cty l₀) ∷ ‵ (fdies slice l₁) ∷ ‵ (fdies sty l₂) ∷ ‵ (fdies pty l₃) ∷ ‵ (fdies (tyInt w64) l₄) ∷ ‵ (fdies nty l₅)
           ∷ ‵ (fdies (tyInt w64) l₆) ∷ ‵ (fdies tyBool l₇) ∷ ‵ (fdies (tyInt w64) l₈) ∷ ‵ (fdies tyPtr l₉) ∷ ‵ (fdies R′.mir l₁₀) ∷ ‵ (fdies tyPtr l₁₁) ∷ []
@@ -239,21 +248,22 @@ module _ {M : Type 1} (𝓤 : URA M) (H : Heap 𝓤) (A : Atoms 𝓤) (W : Given
       more t below =
           -- the test, i and the place of record i
           assigns ! (bin ! (read-at ! 7 (t .p) refl refl) (read-count ! 7 (t .p) refl refl) tt) (from ! (stop !)) (init ! 11 refl (tt, tt)) $
-          rewrite ! 11 (λ (y : Bool). ‵ (fat fullShare tyBool l₇ 0 (vbool y))) (holds (ltb i (t .p .count)) (lt→ltb i (t .p .count) below)) refl $ stays ! (load ! (from ! (stop !)) (look ! 11 refl)) $
+          rewrite ! 11 (λ (y : Bool). ‵ (fat fullShare tyBool l₇ 0 (vbool y))) (holds (ltb i (t .p .count)) (lt→ltb i (t .p .count) below)) refl $
+          stays ! (reads ! 11 refl) $
           assigns ! (of-opd ! (read-at ! 7 (t .p) refl refl)) (from ! (stop !)) (init ! 8 refl (tt, record { fits = i-fits })) $
-          assigns ! (bin ! (load ! (from ! (stop !)) (look ! 8 refl)) (big-lit ! (record { fits = lit< tt })) (record { fits = off })) (from ! (stop !)) (init ! 12 refl (tt, record { fits = off })) $
-          assigns ! (bin ! (load ! (from ! (fld ! refl (stop !))) (look-in ! 5 (sub ! 0 refl (whole !)))) (load ! (from ! (stop !)) (look ! 12 refl)) tt) (from ! (stop !)) (init ! 13 refl (tt, tt)) $
+          assigns ! (bin ! (reads ! 8 refl) (big-lit ! (record { fits = lit< tt })) (record { fits = off })) (from ! (stop !)) (init ! 12 refl (tt, record { fits = off })) $
+          assigns ! (bin ! (load ! (from ! (fld ! refl (stop !))) (look-in ! 5 (sub ! 0 refl (whole !)))) (reads ! 12 refl) tt) (from ! (stop !)) (init ! 13 refl (tt, tt)) $
           rewrite ! 13 (λ (m : ℕ). ‵ (fat fullShare tyPtr l₉ 0 (vptr b m))) (sym (place-is bytes o i)) refl $
           elem-out ! R.the-row (Is R.the-row) (shows 𝓤 H A R.the-row) (LL.vals R.the-type R′.the-laws) (LL.tells R.the-type R′.the-laws) fullShare (t .zs) i d b o within (λ r-is.
           -- [records[i]; what it owns; the others; the open borrow; obs; auth; _0 to _11; …]: local k at 6 + k, and at 7 + k where a call's operands are read
           assigns ! (of-opd ! (load ! (from ! (hop ! (look ! 15 refl) (stop !))) (look-raw ! 0 refl))) (from ! (stop !)) (init ! 16 refl (r-typed W r r-is)) $
           calls-for ! (fmOf 𝓤 H (W .laws) 𝓣) Take (known .takes) (to-take (t .p) r) (goes-take (t .p) r (t .is) r-is (below, underway-room (t .underway) below))
           N.the-row nval n-tells (RecordTaken (t .p) r) _ (of-take (t .p) r) (λ v. id⊢ 𝓤 _)
-          (and-then ! (load ! (from ! (stop !)) (look ! 10 refl)) (and-then ! (load ! (from ! (stop !)) (look ! 17 refl)) (no-more !))) (λ u taken u-is.
+          (and-then ! (reads ! 10 refl) (and-then ! (reads ! 17 refl) (no-more !))) (λ u taken u-is.
           land ! (from ! (stop !)) (init ! 11 refl (n-typed W u u-is)) $
           -- the place again, and the record that came back is stored there
-          assigns ! (bin ! (load ! (from ! (stop !)) (look ! 10 refl)) (big-lit ! (record { fits = lit< tt })) (record { fits = off })) (from ! (stop !)) (store ! 14 refl (tt, record { fits = off })) $
-          assigns ! (bin ! (load ! (from ! (fld ! refl (stop !))) (look-in ! 7 (sub ! 0 refl (whole !)))) (load ! (from ! (stop !)) (look ! 14 refl)) tt) (from ! (stop !)) (init ! 17 refl (tt, tt)) $
+          assigns ! (bin ! (reads ! 10 refl) (big-lit ! (record { fits = lit< tt })) (record { fits = off })) (from ! (stop !)) (store ! 14 refl (tt, record { fits = off })) $
+          assigns ! (bin ! (load ! (from ! (fld ! refl (stop !))) (look-in ! 7 (sub ! 0 refl (whole !)))) (reads ! 14 refl) tt) (from ! (stop !)) (init ! 17 refl (tt, tt)) $
           rewrite ! 17 (λ (m : ℕ). ‵ (fat fullShare tyPtr l₁₁ 0 (vptr b m))) (sym (place-is bytes o i)) refl $
           assigns ! (of-opd ! (read-rec ! 11 u refl refl)) (from ! (hop ! (look ! 17 refl) (stop !))) (store-raw ! 0 refl (r-typed W (u .rec) (rec-is u u-is))) $
           move ! (1 ∷ []) $ drop ! $ owned ! R.the-row (Is R.the-row) (LL.makes R.the-type R′.the-plain 𝓤 H A) (u .rec) _ (rec-is u u-is) $ move ! (1 ∷ 0 ∷ []) $
@@ -261,7 +271,7 @@ module _ {M : Type 1} (𝓤 : URA M) (H : Heap 𝓤) (A : Atoms 𝓤) (W : Given
           -- [the row; the open borrow; obs; auth; _0 to _11; …]: local k at 4 + k
           assigns-last ! (of-opd ! (read-page ! 9 u refl refl)) (from ! (stop !)) (store ! 7 refl (p-typed W (u .page) (page-is u u-is))) $
           forget ! 8 refl $ forget ! 9 refl $ forget ! 11 refl $ forget ! 12 refl $ forget ! 13 refl $ forget ! 14 refl $ forget ! 15 refl $
-          again ! Less Inv t (record { p = u .page; zs = set (t .zs) i (u .rec); underway = taken-underway s₀ xs (t .zs) (t .p) below d u taken (t .underway); is = page-is u u-is }) (taken-fewer (t .p) below r u taken)))
+          again ! Less Inv t (next u taken u-is) (taken-fewer (t .p) below r u taken)))
         where
           i : ℕ
           i = t .p .at
@@ -284,21 +294,31 @@ module _ {M : Type 1} (𝓤 : URA M) (H : Heap 𝓤) (A : Atoms 𝓤) (W : Given
           r : GoalRecord
           r = getD (t .zs) i d
 
+          next : (u : Taken) → RecordTaken (t .p) r u → NIs u → Turn
+          next u taken u-is = record {
+            p = u .page;
+            zs = set (t .zs) i (u .rec);
+            underway = taken-underway s₀ xs (t .zs) (t .p) below d u taken (t .underway);
+            is = page-is u u-is;
+          }
+
       -- the turn that leaves the loop, and the rest of the body
       ends : (t : Turn) → (t .p .at < t .p .count → ⊥) → Sq W (Inv t) (runs (𝓣 .C) (𝓣 .Λ) En mir′.turn-1 (anyQ (afterTurn 𝓤 H (Below 𝓤 H A Less Inv t) Out₁)))
       unfolding afterTurn
       ends t past =
           assigns ! (bin ! (read-at ! 7 (t .p) refl refl) (read-count ! 7 (t .p) refl refl) tt) (from ! (stop !)) (init ! 11 refl (tt, tt)) $
-          rewrite ! 11 (λ (y : Bool). ‵ (fat fullShare tyBool l₇ 0 (vbool y))) (fails (ltb (t .p .at) (t .p .count)) (λ z. past (ltb→lt (t .p .at) (t .p .count) z))) refl $ leaves-loop ! (load ! (from ! (stop !)) (look ! 11 refl)) $
+          rewrite ! 11 (λ (y : Bool). ‵ (fat fullShare tyBool l₇ 0 (vbool y))) (fails (ltb (t .p .at) (t .p .count)) (λ z. past (ltb→lt (t .p .at) (t .p .count) z))) refl $
+          leaves-loop ! (reads ! 11 refl) $
           exec ! (𝓣 .C) (𝓣 .Λ) En mir′.t-4 (atRet En Post) $
           calls-for ! (fmOf 𝓤 H (W .laws) 𝓣) End (known .ends) (to-end (t .p)) (goes-end (t .p) (t .is)) C.the-row cval c-tells (λ (c : Changed). c ≡ ended-at (t .p)) _ (of-end (t .p)) (λ v. id⊢ 𝓤 _)
-          (and-then ! (load ! (from ! (stop !)) (look ! 8 refl)) (no-more !)) (λ c c-is is.
+          (and-then ! (reads ! 8 refl) (no-more !)) (λ c c-is is.
           land ! (from ! (stop !)) (init ! 4 refl (c-typed W c is)) $
           closes-slice ! tt R.the-row xs (t .zs) (underway-length (t .underway)) b o $
           -- [obs; the borrow; the token; _0 to _11; that each of them dies]: local k at 3 + k
           returns ! (look ! 3 refl) $ forget ! 3 refl $ forget ! 4 refl $ forget ! 5 refl $ forget ! 6 refl $ forget ! 10 refl $
-          move ! (3 ∷ 15 ∷ []) $ free1 ! $ move ! (3 ∷ 14 ∷ []) $ free1 ! $ move ! (3 ∷ 13 ∷ []) $ free1 ! $ move ! (3 ∷ 12 ∷ []) $ free1 ! $ move ! (3 ∷ 11 ∷ []) $ free1 ! $ move ! (3 ∷ 10 ∷ []) $ free1 ! $
-          move ! (3 ∷ 9 ∷ []) $ free1 ! $ move ! (3 ∷ 8 ∷ []) $ free1 ! $ move ! (3 ∷ 7 ∷ []) $ free1 ! $ move ! (3 ∷ 6 ∷ []) $ free1 ! $ move ! (3 ∷ 5 ∷ []) $ free1 ! $ move ! (3 ∷ 4 ∷ []) $ free1 ! $ free0 ! $
+          move ! (3 ∷ 15 ∷ []) $ free1 ! $ move ! (3 ∷ 14 ∷ []) $ free1 ! $ move ! (3 ∷ 13 ∷ []) $ free1 ! $ move ! (3 ∷ 12 ∷ []) $ free1 ! $
+          move ! (3 ∷ 11 ∷ []) $ free1 ! $ move ! (3 ∷ 10 ∷ []) $ free1 ! $ move ! (3 ∷ 9 ∷ []) $ free1 ! $ move ! (3 ∷ 8 ∷ []) $ free1 ! $
+          move ! (3 ∷ 7 ∷ []) $ free1 ! $ move ! (3 ∷ 6 ∷ []) $ free1 ! $ move ! (3 ∷ 5 ∷ []) $ free1 ! $ move ! (3 ∷ 4 ∷ []) $ free1 ! $ free0 ! $
           by ! (exits (t .zs) c (underway-length (t .underway)) is (subst (PageAnswered s₀ xs (t .zs)) (sym c-is) (underway-ended (t .underway) past))))
 
       turns : (t : Turn) → Sq W (Inv t) (runs (𝓣 .C) (𝓣 .Λ) En mir′.turn-1 (anyQ (afterTurn 𝓤 H (Below 𝓤 H A Less Inv t) Out₁)))
@@ -313,9 +333,13 @@ module _ {M : Type 1} (𝓤 : URA M) (H : Heap 𝓤) (A : Atoms 𝓤) (W : Given
 
       -- what stands once the parameters are passed: local k at 22 - 2 * k, and after each that it dies
       abbrev Begun : List (Item 𝓤)
-      Begun = ‵ (froom tyPtr l₁₁ 0) ∷ ‵ (fdies tyPtr l₁₁) ∷ ‵ (froom R′.mir l₁₀ 0) ∷ ‵ (fdies R′.mir l₁₀) ∷ ‵ (froom tyPtr l₉ 0) ∷ ‵ (fdies tyPtr l₉) ∷ ‵ (froom (tyInt w64) l₈ 0) ∷ ‵ (fdies (tyInt w64) l₈)
-          ∷ ‵ (froom tyBool l₇ 0) ∷ ‵ (fdies tyBool l₇) ∷ ‵ (froom (tyInt w64) l₆ 0) ∷ ‵ (fdies (tyInt w64) l₆) ∷ ‵ (froom nty l₅ 0) ∷ ‵ (fdies nty l₅) ∷ ‵ (froom (tyInt w64) l₄ 0) ∷ ‵ (fdies (tyInt w64) l₄)
-          ∷ ‵ (froom pty l₃ 0) ∷ ‵ (fdies pty l₃) ∷ ‵ (fat fullShare sty l₂ 0 (sval s₀)) ∷ ‵ (fdies sty l₂) ∷ ‵ (fat fullShare slice l₁ 0 (sliceVal (b, o) n)) ∷ ‵ (fdies slice l₁) ∷ ‵ (froom cty l₀ 0) ∷ ‵ (fdies cty l₀)
+      Begun =
+          ‵ (froom tyPtr l₁₁ 0) ∷ ‵ (fdies tyPtr l₁₁) ∷ ‵ (froom R′.mir l₁₀ 0) ∷ ‵ (fdies R′.mir l₁₀)
+          ∷ ‵ (froom tyPtr l₉ 0) ∷ ‵ (fdies tyPtr l₉) ∷ ‵ (froom (tyInt w64) l₈ 0) ∷ ‵ (fdies (tyInt w64) l₈)
+          ∷ ‵ (froom tyBool l₇ 0) ∷ ‵ (fdies tyBool l₇) ∷ ‵ (froom (tyInt w64) l₆ 0) ∷ ‵ (fdies (tyInt w64) l₆)
+          ∷ ‵ (froom nty l₅ 0) ∷ ‵ (fdies nty l₅) ∷ ‵ (froom (tyInt w64) l₄ 0) ∷ ‵ (fdies (tyInt w64) l₄)
+          ∷ ‵ (froom pty l₃ 0) ∷ ‵ (fdies pty l₃) ∷ ‵ (fat fullShare sty l₂ 0 (sval s₀)) ∷ ‵ (fdies sty l₂)
+          ∷ ‵ (fat fullShare slice l₁ 0 (sliceVal (b, o) n)) ∷ ‵ (fdies slice l₁) ∷ ‵ (froom cty l₀ 0) ∷ ‵ (fdies cty l₀)
           ∷ (‵ (flft κ q) ⊛ ‵ ftrue) ∷ ‵ (owns (MutSlice (named 0) κ R.the-row ∷ S.the-row ∷ []) a vals) ∷ []
 
       begun : ent 𝓤 (⋆ 𝓤 H A Begun) (Wp 𝓤 H (𝓣 .C) (𝓣 .Λ) En mir′.t-1 (atReturn 𝓤 H En Post))
@@ -323,7 +347,7 @@ module _ {M : Type 1} (𝓤 : URA M) (H : Heap 𝓤) (A : Atoms 𝓤) (W : Given
           qed W Begun ∵ exec ! (𝓣 .C) (𝓣 .Λ) En mir′.t-1 (atRet En Post) $
           assigns ! (of-opd ! (load ! (from ! (fld ! refl (stop !))) (look-in ! 20 (sub ! 1 refl (whole !))))) (from ! (stop !)) (init ! 10 refl (tt, record { fits = g .0 })) $
           calls-for ! (fmOf 𝓤 H (W .laws) 𝓣) Begin (known .begins) (to-begin s₀ n) (goes-begin s₀ n s₀-is (g .0)) P.the-row pval p-tells (PageBegun s₀ n) _ (of-begin s₀ n) (λ v. id⊢ 𝓤 _)
-          (and-then ! (load ! (from ! (stop !)) (look ! 19 refl)) (and-then ! (load ! (from ! (stop !)) (look ! 11 refl)) (no-more !))) (λ p p-begun p-is.
+          (and-then ! (reads ! 19 refl) (and-then ! (reads ! 11 refl) (no-more !))) (λ p p-begun p-is.
           land ! (from ! (stop !)) (init ! 16 refl (p-typed W p p-is)) $ forget ! 10 refl $
           move ! (25 ∷ []) $ fsplit ! $ fsplit ! $ drop ! $ fsplit ! $ move ! (27 ∷ []) $ split ! $ move ! (2 ∷ 3 ∷ 0 ∷ []) $
           opens-slice ! tt R.the-row xs b o $
@@ -336,7 +360,8 @@ module _ {M : Type 1} (𝓤 : URA M) (H : Heap 𝓤) (A : Atoms 𝓤) (W : Given
         → ent 𝓤 (onEntry 𝓤 H A page.signature (κ, tt) (q, tt) a vals) (WpFn 𝓤 H (𝓣 .C) (𝓣 .Λ) (with-body body) (sliceVal (b, o) n ∷ sval s₀ ∷ []) Post)
     enters 𝓣 known body k =
         qed W ((‵ (flft κ q) ⊛ ‵ ftrue) ∷ ‵ (owns (MutSlice (named 0) κ R.the-row ∷ S.the-row ∷ []) a vals) ∷ []) ∵ enter ! (𝓣 .C) (𝓣 .Λ) (with-body body) (sliceVal (b, o) n ∷ sval s₀ ∷ []) _ $
-        alloc1 ! (λ l₀. alloc1 ! (λ l₁. alloc1 ! (λ l₂. alloc1 ! (λ l₃. alloc1 ! (λ l₄. alloc1 ! (λ l₅. alloc1 ! (λ l₆. alloc1 ! (λ l₇. alloc1 ! (λ l₈. alloc1 ! (λ l₉. alloc1 ! (λ l₁₀. alloc1 ! (λ l₁₁. alloc0 ! $ params1 ! $
+        alloc1 ! (λ l₀. alloc1 ! (λ l₁. alloc1 ! (λ l₂. alloc1 ! (λ l₃. alloc1 ! (λ l₄. alloc1 ! (λ l₅.
+        alloc1 ! (λ l₆. alloc1 ! (λ l₇. alloc1 ! (λ l₈. alloc1 ! (λ l₉. alloc1 ! (λ l₁₀. alloc1 ! (λ l₁₁. alloc0 ! $ params1 ! $
         pass1 ! (init ! 20 refl (tt, (tt, (record { fits = g .0 }, tt)))) $ pass1 ! (init ! 18 refl (s-typed W s₀ s₀-is)) $ pass0 ! $
         by ! (k l₀ l₁ l₂ l₃ l₄ l₅ l₆ l₇ l₈ l₉ l₁₀ l₁₁)))))))))))))
 
@@ -353,7 +378,8 @@ module _ {M : Type 1} (𝓤 : URA M) (H : Heap 𝓤) (A : Atoms 𝓤) (W : Given
       (walk (κs .0) (qs .0) (a .0 .ptr .0) (a .0 .ptr .1) (a .0 .name) (a .0 .now) (a .1 .0) (are .1 .0) (are .0 .0 .1) 𝓣 known))
 
   page-meets : (𝓣 : Tables 𝓤 H) → Known 𝓣 → Meets 𝓤 H A page.signature (WpFn 𝓤 H (𝓣 .C) (𝓣 .Λ) code.function) (page.spec 𝓤 H A mem run)
-  page-meets 𝓣 known = walk-meets 𝓤 H A page.ended stayed W (goes-slice 𝓤 H A W 1 0 tt (plain (λ _. R.the-row)), (goes-none 𝓤 H A W 1 (λ _. S.the-row) yes (λ κs x f. refl), tt)) (page.clauses 𝓤 H A mem run)
+  page-meets 𝓣 known = walk-meets 𝓤 H A page.ended stayed W
+      (goes-slice 𝓤 H A W 1 0 tt (plain (λ _. R.the-row)), (goes-none 𝓤 H A W 1 (λ _. S.the-row) yes (λ κs x f. refl), tt)) (page.clauses 𝓤 H A mem run)
       (WpFn 𝓤 H (𝓣 .C) (𝓣 .Λ) code.function) (WpFn-mono 𝓤 H (W .laws) 𝓣 code.function) (page-walks 𝓣 known)
 
 pub page-spec : {M : Type 1} → stated.statement M

@@ -13,7 +13,8 @@ use Rattle.script.proofs.pages.write_record.Statement.{statement}
 use Rattle.script.proofs.pages.write_record.Tie as tie
 
 -- The answer is known.
-by-answer : {x y : List ℕ} {at n : ℕ} (place : ℕ) (r : GoalRecord) (known : GoalAnswer) → r .answer ≡ known → Appends (answerLines place known (r .worlds)) x at y n → Appends (recordLines place r) x at y n
+by-answer : {x y : List ℕ} {at n : ℕ} (place : ℕ) (r : GoalRecord) (known : GoalAnswer) → r .answer ≡ known
+    → Appends (answerLines place known (r .worlds)) x at y n → Appends (recordLines place r) x at y n
 by-answer place r known e = same-text (ap (λ (a : GoalAnswer). answerLines place a (r .worlds)) (sym e))
 
 returns : tie.Need-returns

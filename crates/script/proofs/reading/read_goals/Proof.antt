@@ -5,7 +5,6 @@ use Rattle.script.specs.Words.{wordsOf}
 use Rattle.script.specs.Places.{byteOf}
 use Rattle.script.proofs.Goals.{Collected, none-collected, all-collected, fewer-words, no-goal, one-collected}
 use borrow.Author.Needs.{needs}
-use native.Mathlib.Omega.{arith}
 use Rattle.script.proofs.reading.read_goals.Statement.{statement}
 use Rattle.script.proofs.reading.read_goals.Tie as tie
 
