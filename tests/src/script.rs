@@ -30,8 +30,9 @@ enum Call<'a> {
     Text(&'a [u8]),
     Flat(Flat),
     Implication(Implication),
-    Ask(u8),
-    Page(Vec<u8>),
+    Ask { goal: u8, author: u8 },
+    Page { goals: Vec<u8>, author: u8 },
+    Mean(u8),
     Mark(u8),
     Return(u8),
     Length,
@@ -71,8 +72,11 @@ impl Dialogue {
             Call::Text(text) => self.begin(Session::of_text(text)).map(|goal| format!("goal {goal}\n")),
             Call::Flat(flat) => session.add_flat(flat).map(done),
             Call::Implication(implication) => session.add_implication(implication).map(done),
-            Call::Ask(goal) => session.ask(goal).map(|answer| verdict_lines(session.atoms(), &answer)),
-            Call::Page(goals) => session.page(&goals).map(|answers| page_lines(&answers)),
+            Call::Ask { goal, author } => {
+                session.ask(goal, author).map(|answer| verdict_lines(session.atoms(), &answer))
+            }
+            Call::Page { goals, author } => session.page(&goals, author).map(|answers| page_lines(&answers)),
+            Call::Mean(author) => session.mean(author).map(|(mean, rest)| format!("mean {mean} remainder {rest}\n")),
             Call::Mark(number) => session.set_mark(number).map(done),
             Call::Return(number) => session.return_to(number).map(done),
             Call::Length => session.length_told().map(|length| format!("length {length}\n")),
@@ -100,8 +104,11 @@ fn read(line: &[u8]) -> Option<Call<'_>> {
         [b"text", ..] => Call::Text(text_of(line)),
         [b"flat", left, right] => Call::Flat(Flat { left: number(left)?, right: number(right)? }),
         [b"implication", a, b, c] => Call::Implication(Implication { a: byte(a)?, b: byte(b)?, c: byte(c)? }),
-        [b"ask", goal] => Call::Ask(byte(goal)?),
-        [b"page", ref goals @ ..] => Call::Page(goals.iter().map(|goal| byte(goal)).collect::<Option<_>>()?),
+        [b"ask", goal] => Call::Ask { goal: byte(goal)?, author: 0 },
+        [b"ask", goal, b"by", author] => Call::Ask { goal: byte(goal)?, author: byte(author)? },
+        [b"page", ref goals @ .., b"by", author] => Call::Page { goals: all_bytes(goals)?, author: byte(author)? },
+        [b"page", ref goals @ ..] => Call::Page { goals: all_bytes(goals)?, author: 0 },
+        [b"mean", author] => Call::Mean(byte(author)?),
         [b"mark", number] => Call::Mark(byte(number)?),
         [b"return", number] => Call::Return(byte(number)?),
         [b"length"] => Call::Length,
@@ -141,6 +148,10 @@ fn number(word: &[u8]) -> Option<u64> {
 
 fn byte(word: &[u8]) -> Option<u8> {
     u8::try_from(number(word)?).ok()
+}
+
+fn all_bytes(words: &[&[u8]]) -> Option<Vec<u8>> {
+    words.iter().map(|word| byte(word)).collect()
 }
 
 /// The bytes that pairs of small hexadecimal digits stand for.
@@ -257,18 +268,70 @@ mod tests {
     }
 
     #[test]
+    fn authors() {
+        let refuted = "refuted\natoms 1 questions 1 learned 0\nworld 0\n";
+        let on_page = "goal 0 refuted 1\nworld 0\n";
+        let cases = [
+            ("ask 0 by 0", refuted),
+            ("ask 0 by 15", refuted),
+            ("   ask   000   by   0015   ", refuted),
+            ("ask 0 by 16", "refused 20\n"),
+            ("ask 1 by 255", "refused 20\n"),
+            ("ask 1 by 15", "refused 6\n"),
+            ("page 0 by 15", on_page),
+            ("   page   000   by   0015   ", on_page),
+            ("page by 15", ""),
+            ("page by 16", "refused 20\n"),
+            ("page 1 by 255", "refused 20\n"),
+            ("page 1 by 15", "refused 6\n"),
+            ("mean 15", "refused 21\n"),
+            ("   mean   0015   ", "refused 21\n"),
+            ("mean 16", "refused 20\n"),
+            ("mean 255", "refused 20\n"),
+        ];
+        for (line, wanted) in cases {
+            assert_eq!(answers(line.as_bytes()), wanted, "{line}");
+        }
+    }
+
+    #[test]
+    fn authors_named_otherwise() {
+        const ENDS: [&str; 10] =
+            [" by", " by 256", " by x", " by -1", " by 1 2", " by by 1", " by 1 by 2", " 0 by", "by 1", " By 1"];
+        const OTHERS: [&str; 9] =
+            ["ask by", "ask by 1", "page by", "page by 1 2", "pageby 1", "mean", "mean 1 2", "mean by 1", "mean 256"];
+        let ends = ["ask 0", "page 0"].iter().flat_map(|call| ENDS.map(|end| format!("{call}{end}")));
+        for line in ends.chain(OTHERS.map(String::from)) {
+            assert_eq!(answers(line.as_bytes()), "line 1 is no call\n", "{line}");
+        }
+    }
+
+    #[test]
+    fn counts_of_authors() {
+        let script = "open 3\nflat 0 3\npage 0 1 2 by 1\nask 2 by 1\nask 2 by 2\nmean 1\nmean 2\nmean 0\n";
+        let page = "goal 0 refuted 1\nworld 2\ngoal 1 refuted 1\nworld 1\ngoal 2 refuted by 0\n";
+        let asked = [3, 1].map(|count| format!("refuted\natoms 3 questions {count} learned 0\nworld 1\n")).concat();
+        let means = "mean 0 remainder 3\nmean 1 remainder 0\nrefused 21\n";
+        assert_eq!(answers(script.as_bytes()), "done\n".repeat(2) + page + &asked + means);
+    }
+
+    #[test]
     fn long_pages() {
         let of_goals = |count: usize, end: &str| answers(("page".to_string() + &" 0".repeat(count) + end).as_bytes());
         let by_first: String = (1..64).map(|place| format!("goal {place} refuted by 0\n")).collect();
-        assert_eq!(of_goals(64, ""), "goal 0 refuted 1\nworld 0\n".to_string() + &by_first);
+        for by in ["", " by 15"] {
+            assert_eq!(of_goals(64, by), "goal 0 refuted 1\nworld 0\n".to_string() + &by_first);
+        }
         assert_eq!(of_goals(63, " 1"), "refused 6\n");
         assert_eq!(of_goals(64, " 256"), "line 1 is no call\n");
         assert_eq!(of_goals(64, " 1"), "refused 19\n");
-        let most_goals = (MOST_LINE_BYTES - "page".len()) / " 0".len();
-        for count in [65, 256, 320, most_goals] {
-            assert_eq!(of_goals(count, ""), "refused 19\n", "{count}");
+        for (by, wanted) in [("", "refused 19\n"), (" by 15", "refused 19\n"), (" by 16", "refused 20\n")] {
+            let most_goals = (MOST_LINE_BYTES - "page".len() - by.len()) / " 0".len();
+            for count in [65, 256, 320, most_goals] {
+                assert_eq!(of_goals(count, by), wanted, "{count}{by}");
+            }
+            assert_eq!(of_goals(most_goals, &(by.to_string() + " ")), "line 1 is no call\n");
         }
-        assert_eq!(of_goals(most_goals, " "), "line 1 is no call\n");
     }
 
     #[test]

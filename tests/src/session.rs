@@ -1,5 +1,5 @@
-//! The session of document 01, with the marks and the pages of document 02: clauses held, questions answered by the fixed search,
-//! steps and the last verdict kept.
+//! The session of document 01, with the marks, the pages and the authors of document 02: clauses held, questions answered by the
+//! fixed search, steps and the last verdict kept.
 
 use crate::certificate;
 use crate::naming::{problem_of, single, Flat, Implication, Problem, FALSE, MOST_FLATS, MOST_IMPLICATIONS};
@@ -9,15 +9,33 @@ use crate::search::{settle_after, Answer, Step, Verdict};
 
 const MOST_MARK: u8 = 7;
 const MOST_GOALS: usize = 64;
+const AUTHORS: u8 = 16;
 
 pub struct Session {
     /// The clauses held; the goal is that of the last verdict, at first that of the text.
     problem: Problem,
     steps: Vec<Step>,
-    questions: u32,
-    verdict: Option<Verdict>,
+    /// That with the last verdict, while it is held.
+    answer: Option<Answer>,
+    /// Those of each author.
+    counts: [Counts; AUTHORS as usize],
     /// In the order in which they were last set.
     marks: Vec<Mark>,
+}
+
+/// How many classical questions an author put, and how many verdicts they gave.
+#[derive(Clone, Copy, Debug, Default, PartialEq, Eq)]
+struct Counts {
+    questions: u32,
+    verdicts: u32,
+}
+
+impl Counts {
+    /// One verdict more, after so many questions.
+    fn add_verdict(&mut self, questions: u32) {
+        self.questions = self.questions.saturating_add(questions);
+        self.verdicts = self.verdicts.saturating_add(1);
+    }
 }
 
 /// A mark, with all that was held when it was last set.
@@ -61,7 +79,8 @@ impl Session {
     }
 
     fn holding(problem: Problem) -> Session {
-        Session { problem, steps: Vec::new(), questions: 0, verdict: None, marks: Vec::new() }
+        let counts = [Counts::default(); AUTHORS as usize];
+        Session { problem, steps: Vec::new(), answer: None, counts, marks: Vec::new() }
     }
 
     pub fn atoms(&self) -> u8 {
@@ -72,7 +91,7 @@ impl Session {
         refuse(6, !self.problem.has_set(flat.left | flat.right))?;
         refuse(7, self.is_full_of_flats())?;
         self.problem.flats.push(flat);
-        self.verdict = None;
+        self.answer = None;
         Ok(())
     }
 
@@ -83,7 +102,7 @@ impl Session {
         refuse(8, self.problem.implications.len() == MOST_IMPLICATIONS)?;
         self.problem.implications.push(implication);
         self.problem.flats.extend(closing);
-        self.verdict = None;
+        self.answer = None;
         Ok(())
     }
 
@@ -91,36 +110,53 @@ impl Session {
         self.problem.flats.len() == MOST_FLATS
     }
 
-    /// The verdict with all steps held and the questions of all calls. A refused question changes nothing.
-    pub fn ask(&mut self, goal: u8) -> Result<Answer, Refusal> {
+    /// The verdict with all steps held and all questions of its author. A refused question changes nothing.
+    pub fn ask(&mut self, goal: u8, author: u8) -> Result<Answer, Refusal> {
+        refuse(20, author >= AUTHORS)?;
         refuse(6, !self.problem.has_atom_or_false(goal))?;
         let problem = Problem { goal, ..self.problem.clone() };
         let answer = settle_after(&problem, &self.steps)?;
+        let counts = &mut self.counts[usize::from(author)];
+        counts.add_verdict(answer.questions);
+        let answer = Answer { questions: counts.questions, ..answer };
         self.problem = problem;
-        self.questions = self.questions.saturating_add(answer.questions);
-        self.steps = answer.steps;
-        self.verdict = Some(answer.verdict);
-        self.answer()
+        self.steps = answer.steps.clone();
+        self.answer = Some(answer.clone());
+        Ok(answer)
     }
 
-    /// The goals in order, each as if asked alone, unless a model found on this page refutes it.
-    pub fn page(&mut self, goals: &[u8]) -> Result<Vec<GoalAnswer>, Refusal> {
+    /// The goals in order, each as if its author asked it alone, unless a model found on this page refutes it.
+    pub fn page(&mut self, goals: &[u8], author: u8) -> Result<Vec<GoalAnswer>, Refusal> {
+        refuse(20, author >= AUTHORS)?;
         refuse(19, goals.len() > MOST_GOALS)?;
         refuse(6, !goals.iter().all(|&goal| self.problem.has_atom_or_false(goal)))?;
         let mut answers = Vec::new();
         for &goal in goals {
-            let found = earliest_lacking(goal, &answers);
-            answers.push(found.map_or_else(|| self.searched(goal), GoalAnswer::RefutedBy));
+            answers.push(match earliest_lacking(goal, &answers) {
+                None => self.searched(goal, author),
+                Some(place) => {
+                    self.counts[usize::from(author)].add_verdict(0);
+                    GoalAnswer::RefutedBy(place)
+                }
+            });
         }
         Ok(answers)
     }
 
-    fn searched(&mut self, goal: u8) -> GoalAnswer {
-        match self.ask(goal) {
+    fn searched(&mut self, goal: u8, author: u8) -> GoalAnswer {
+        match self.ask(goal, author) {
             Err(refusal) => GoalAnswer::Refused(refusal),
             Ok(Answer { verdict: Verdict::Valid, steps, .. }) => GoalAnswer::Valid(steps.len()),
             Ok(Answer { verdict: Verdict::Refuted(worlds), .. }) => GoalAnswer::Refuted(worlds),
         }
+    }
+
+    /// The questions of an author to one verdict, and how many are over.
+    pub fn mean(&self, author: u8) -> Result<(u32, u32), Refusal> {
+        refuse(20, author >= AUTHORS)?;
+        let Counts { questions, verdicts } = self.counts[usize::from(author)];
+        refuse(21, verdicts == 0)?;
+        Ok((questions / verdicts, questions % verdicts))
     }
 
     pub fn set_mark(&mut self, number: u8) -> Result<(), Refusal> {
@@ -140,14 +176,12 @@ impl Session {
         self.problem.flats = mark.flats.clone();
         self.problem.implications = mark.implications.clone();
         self.steps = mark.steps.clone();
-        self.verdict = None;
+        self.answer = None;
         Ok(())
     }
 
-    /// The answer held, if a verdict is.
-    fn answer(&self) -> Result<Answer, Refusal> {
-        let verdict = self.verdict.clone().ok_or(Refusal::plain(9))?;
-        Ok(Answer { verdict, steps: self.steps.clone(), questions: self.questions })
+    fn answer(&self) -> Result<&Answer, Refusal> {
+        self.answer.as_ref().ok_or(Refusal::plain(9))
     }
 
     /// The length of the sheet of the verdict held, by the counts.
@@ -160,7 +194,7 @@ impl Session {
     }
 
     pub fn sheet(&self) -> Result<Vec<u8>, Refusal> {
-        Ok(certificate::write(&self.problem, &self.answer()?))
+        Ok(certificate::write(&self.problem, self.answer()?))
     }
 }
 
@@ -185,9 +219,14 @@ mod tests {
 
     const SAME: Flat = Flat { left: 1, right: 1 };
     const NOT_FALSE: Implication = Implication { a: 0, b: FALSE, c: FALSE };
+    const AUTHOR: u8 = 15;
 
     fn refusal<T>(answered: Result<T, Refusal>) -> u8 {
         answered.err().map_or(0, |refusal| refusal.number)
+    }
+
+    fn counts(session: &mut Session) -> &mut Counts {
+        &mut session.counts[usize::from(AUTHOR)]
     }
 
     #[test]
@@ -217,17 +256,17 @@ mod tests {
     fn verdicts_held() {
         let (mut session, goal) = Session::of_text(b"p>p").expect("p>p");
         assert_eq!((goal, refusal(session.sheet())), (1, 9));
-        let answer = session.ask(goal).expect("a verdict");
+        let answer = session.ask(goal, AUTHOR).expect("a verdict");
         assert_eq!((answer.verdict, answer.questions, answer.steps.len()), (Verdict::Valid, 3, 1));
         let sheet = session.sheet().expect("a sheet");
         assert_eq!((sheet.len(), verdict_line(&sheet)), (83, "accepted valid\n".into()));
         assert_eq!(session.length_told().expect("a length"), 83);
-        assert_eq!(refusal(session.ask(2)), 6);
+        assert_eq!(refusal(session.ask(2, AUTHOR)), 6);
         assert_eq!(refusal(session.add_flat(Flat { left: 4, right: 0 })), 6);
         assert_eq!(session.sheet(), Ok(sheet));
         assert_eq!(refusal(session.add_flat(SAME)), 0);
         assert_eq!(refusal(session.sheet()), 9);
-        let again = session.ask(goal).expect("a verdict");
+        let again = session.ask(goal, AUTHOR).expect("a verdict");
         assert_eq!((again.questions, again.steps.len()), (4, 1));
     }
 
@@ -247,7 +286,7 @@ mod tests {
     fn a_return_drops_clauses_steps_and_the_verdict() {
         let (mut session, goal) = Session::of_text(b"p>p").expect("p>p");
         session.set_mark(0).expect("a mark");
-        let first = session.ask(goal).expect("a verdict");
+        let first = session.ask(goal, AUTHOR).expect("a verdict");
         session.set_mark(1).expect("a mark");
         assert!(session.sheet().is_ok());
         session.add_flat(SAME).expect("a clause");
@@ -255,7 +294,7 @@ mod tests {
         assert_eq!((session.problem.flats.len(), session.steps.len(), refusal(session.sheet())), (2, 1, 9));
         assert_eq!(refusal(session.return_to(0)), 0);
         assert_eq!((session.steps.len(), refusal(session.return_to(1))), (0, 18));
-        let again = session.ask(goal).expect("a verdict");
+        let again = session.ask(goal, AUTHOR).expect("a verdict");
         assert_eq!((again.questions, again.steps), (2 * first.questions, first.steps));
     }
 
@@ -274,13 +313,13 @@ mod tests {
     #[test]
     fn a_question_that_needs_too_many_worlds_changes_nothing() {
         let mut session = with_double_negations();
-        assert_eq!(refusal(session.ask(FALSE)), 11);
-        assert_eq!((session.questions, refusal(session.sheet())), (0, 9));
+        assert_eq!(refusal(session.ask(FALSE, AUTHOR)), 11);
+        assert_eq!((refusal(session.sheet()), refusal(session.mean(AUTHOR))), (9, 21));
         session.add_flat(ZERO_OR_NINE).expect("a clause");
-        let answer = session.ask(9).expect("256 worlds that have atom 0");
-        let sheet = session.sheet();
-        assert_eq!(refusal(session.ask(0)), 11);
-        assert_eq!((session.questions, session.sheet()), (answer.questions, sheet));
+        session.ask(9, AUTHOR).expect("256 worlds that have atom 0");
+        let before = held(&session);
+        assert_eq!(refusal(session.ask(0, AUTHOR)), 11);
+        assert_eq!(held(&session), before);
     }
 
     /// Three atoms, of which 0 or 1 holds.
@@ -290,45 +329,59 @@ mod tests {
         session
     }
 
-    /// All that a page may change.
-    fn held(session: &Session) -> (u32, Vec<Step>, Result<Vec<u8>, Refusal>) {
-        (session.questions, session.steps.clone(), session.sheet())
+    /// All that a question or a page may change.
+    fn held(session: &Session) -> ([Counts; AUTHORS as usize], Vec<Step>, Result<Vec<u8>, Refusal>) {
+        (session.counts, session.steps.clone(), session.sheet())
+    }
+
+    #[test]
+    fn refusals_of_a_question_in_order() {
+        let mut session = with_a_choice();
+        session.ask(0, AUTHOR).expect("a verdict");
+        let before = held(&session);
+        for (goal, author, wanted) in [(0, 16, 20), (3, 16, 20), (254, 255, 20), (3, AUTHOR, 6), (254, 0, 6)] {
+            assert_eq!(refusal(session.ask(goal, author)), wanted, "{goal} by {author}");
+            assert_eq!(held(&session), before, "{goal} by {author}");
+        }
     }
 
     #[test]
     fn refusals_of_a_page_in_order() {
         let mut session = with_a_choice();
-        session.ask(0).expect("a verdict");
+        session.ask(0, AUTHOR).expect("a verdict");
         let before = held(&session);
         let [mut last_wrong, mut first_wrong] = [[1; MOST_GOALS]; 2];
         (last_wrong[MOST_GOALS - 1], first_wrong[0]) = (3, 254);
         let refused: [(&[u8], u8); 6] =
             [(&[3], 6), (&[1, 3, 1], 6), (&last_wrong, 6), (&first_wrong, 6), (&[1; 65], 19), (&[3; 65], 19)];
         for (goals, wanted) in refused {
-            assert_eq!(refusal(session.page(goals)), wanted, "{goals:?}");
+            assert_eq!(refusal(session.page(goals, AUTHOR)), wanted, "{goals:?}");
+            assert_eq!([16, 255].map(|author| refusal(session.page(goals, author))), [20, 20], "{goals:?}");
             assert_eq!(held(&session), before, "{goals:?}");
         }
-        assert_eq!(session.page(&[1; MOST_GOALS]).expect("a page").len(), MOST_GOALS);
+        assert_eq!([&[][..], &[1]].map(|goals| refusal(session.page(goals, 16))), [20, 20]);
+        assert_eq!(session.page(&[1; MOST_GOALS], AUTHOR).expect("a page").len(), MOST_GOALS);
     }
 
     #[test]
     fn an_empty_page_changes_nothing() {
         let mut session = with_a_choice();
-        assert_eq!((session.page(&[]), refusal(session.sheet())), (Ok(Vec::new()), 9));
-        session.ask(0).expect("a verdict");
+        assert_eq!((session.page(&[], AUTHOR), refusal(session.sheet())), (Ok(Vec::new()), 9));
+        session.ask(0, AUTHOR).expect("a verdict");
         let before = held(&session);
-        assert_eq!((session.page(&[]), held(&session)), (Ok(Vec::new()), before));
+        assert_eq!((session.page(&[], AUTHOR), held(&session)), (Ok(Vec::new()), before));
     }
 
     #[test]
     fn the_earliest_model_refutes() {
         let mut session = with_a_choice();
-        let answers = session.page(&[0, 1, 2, 1, 0, FALSE]).expect("a page");
+        let answers = session.page(&[0, 1, 2, 1, 0, FALSE], AUTHOR).expect("a page");
         let own = [2, 1].map(|root| GoalAnswer::Refuted(vec![root]));
         assert_eq!((&answers[..2], &answers[2..]), (&own[..], &[0, 1, 0, 0].map(GoalAnswer::RefutedBy)[..]));
         let mut asked = with_a_choice();
-        asked.ask(0).expect("a verdict");
-        asked.ask(1).expect("a verdict");
+        asked.ask(0, AUTHOR).expect("a verdict");
+        asked.ask(1, AUTHOR).expect("a verdict");
+        (0..4).for_each(|_| counts(&mut asked).add_verdict(0));
         assert_eq!(held(&session), held(&asked));
     }
 
@@ -336,24 +389,25 @@ mod tests {
     fn models_of_earlier_calls_refute_nothing() {
         let mut session = with_a_choice();
         let own = Ok(vec![GoalAnswer::Refuted(vec![1])]);
-        assert_eq!(session.ask(0).expect("a verdict").verdict, Verdict::Refuted(vec![2]));
-        assert_eq!(session.page(&[2]), own);
-        assert_eq!(session.page(&[0]), Ok(vec![GoalAnswer::Refuted(vec![2])]));
-        assert_eq!((session.page(&[2]), session.questions), (own, 4));
+        assert_eq!(session.ask(0, AUTHOR).expect("a verdict").verdict, Verdict::Refuted(vec![2]));
+        assert_eq!(session.page(&[2], AUTHOR), own);
+        assert_eq!(session.page(&[0], AUTHOR), Ok(vec![GoalAnswer::Refuted(vec![2])]));
+        assert_eq!((session.page(&[2], AUTHOR), session.mean(AUTHOR)), (own, Ok((1, 0))));
     }
 
     #[test]
     fn false_lacks_at_every_root() {
         let mut session = with_a_choice();
-        assert_eq!(session.page(&[FALSE, FALSE]), Ok(vec![GoalAnswer::Refuted(vec![1]), GoalAnswer::RefutedBy(0)]));
+        let by_first = vec![GoalAnswer::Refuted(vec![1]), GoalAnswer::RefutedBy(0)];
+        assert_eq!(session.page(&[FALSE, FALSE], AUTHOR), Ok(by_first));
         session.add_flat(Flat { left: 0, right: 0 }).expect("a clause");
-        assert_eq!(session.page(&[FALSE, FALSE]), Ok(vec![GoalAnswer::Valid(0); 2]));
+        assert_eq!(session.page(&[FALSE, FALSE], AUTHOR), Ok(vec![GoalAnswer::Valid(0); 2]));
     }
 
     #[test]
     fn the_last_verdict_searched_for_is_held() {
         let (mut session, goal) = Session::of_text(b"p>p").expect("p>p");
-        let answers = session.page(&[0, goal, FALSE, 0]).expect("a page");
+        let answers = session.page(&[0, goal, FALSE, 0], AUTHOR).expect("a page");
         let [by_first, valid] = [GoalAnswer::RefutedBy(0), GoalAnswer::Valid(1)];
         assert_eq!(answers, [GoalAnswer::Refuted(vec![2]), valid, by_first.clone(), by_first]);
         let sheet = session.sheet().expect("a sheet");
@@ -366,12 +420,13 @@ mod tests {
         session.add_flat(ZERO_OR_NINE).expect("a clause");
         asked.add_flat(ZERO_OR_NINE).expect("a clause");
         let refused = GoalAnswer::Refused(Refusal::plain(11));
-        assert_eq!((session.page(&[0]), refusal(session.sheet())), (Ok(vec![refused.clone()]), 9));
-        let Verdict::Refuted(worlds) = asked.ask(9).expect("256 worlds").verdict else { panic!("9 is valid") };
+        assert_eq!((session.page(&[0], AUTHOR), refusal(session.sheet())), (Ok(vec![refused.clone()]), 9));
+        let Verdict::Refuted(worlds) = asked.ask(9, AUTHOR).expect("256 worlds").verdict else { panic!("9 is valid") };
         let wanted = [refused.clone(), GoalAnswer::Refuted(worlds), refused.clone(), GoalAnswer::RefutedBy(1)];
-        assert_eq!(session.page(&[0, 9, 0, FALSE]).expect("a page"), wanted);
+        assert_eq!(session.page(&[0, 9, 0, FALSE], AUTHOR).expect("a page"), wanted);
+        counts(&mut asked).add_verdict(0);
         assert_eq!(held(&session), held(&asked));
-        assert_eq!((session.page(&[0, 0]), held(&session)), (Ok(vec![refused; 2]), held(&asked)));
+        assert_eq!((session.page(&[0, 0], AUTHOR), held(&session)), (Ok(vec![refused; 2]), held(&asked)));
     }
 
     /// Each verdict is that of the goal alone, and what is searched for is answered as if asked in order.
@@ -382,14 +437,42 @@ mod tests {
         for text in entries().map(|entry| entry.text).filter(|text| fresh(text).atoms() <= 20) {
             let [mut session, mut asked] = [fresh(text), fresh(text)];
             let goals: Vec<u8> = (0..session.atoms()).chain([FALSE]).collect();
-            let answers = session.page(&goals).expect("a page");
+            let answers = session.page(&goals, AUTHOR).expect("a page");
             for (&goal, answer) in goals.iter().zip(&answers) {
-                assert_eq!(is_valid(answer), is_valid(&fresh(text).searched(goal)), "{goal} of {text}");
-                if !matches!(answer, GoalAnswer::RefutedBy(_)) {
-                    assert_eq!(*answer, asked.searched(goal), "{goal} of {text}");
+                assert_eq!(is_valid(answer), is_valid(&fresh(text).searched(goal, AUTHOR)), "{goal} of {text}");
+                match answer {
+                    GoalAnswer::RefutedBy(_) => counts(&mut asked).add_verdict(0),
+                    _ => assert_eq!(*answer, asked.searched(goal, AUTHOR), "{goal} of {text}"),
                 }
             }
             assert_eq!(held(&session), held(&asked), "{text}");
         }
+    }
+
+    #[test]
+    fn authors_are_counted_apart() {
+        let (mut session, goal) = Session::of_text(b"p>p").expect("p>p");
+        assert_eq!([0, 15, 16, 255].map(|author| refusal(session.mean(author))), [21, 21, 20, 20]);
+        session.set_mark(0).expect("a mark");
+        assert_eq!([0, 7, 0].map(|author| session.ask(goal, author).expect("a verdict").questions), [3, 1, 4]);
+        session.add_flat(SAME).expect("a clause");
+        session.return_to(0).expect("a mark");
+        assert_eq!([0, 1, 7].map(|author| session.mean(author).ok()), [Some((2, 0)), None, Some((1, 0))]);
+        session.page(&[goal, 0, FALSE], 7).expect("a page");
+        assert_eq!([0, 7].map(|author| session.mean(author)), [Ok((2, 0)), Ok((1, 1))]);
+        assert_eq!(session.counts[7], Counts { questions: 5, verdicts: 4 });
+    }
+
+    #[test]
+    fn counts_stay_at_their_end() {
+        let (mut session, goal) = Session::of_text(b"p>p").expect("p>p");
+        let most = Counts { questions: u32::MAX, verdicts: u32::MAX };
+        *counts(&mut session) = Counts { questions: u32::MAX - 2, verdicts: u32::MAX - 1 };
+        for _ in 0..2 {
+            assert_eq!(session.ask(goal, AUTHOR).expect("a verdict").questions, u32::MAX);
+            assert_eq!(*counts(&mut session), most);
+        }
+        session.page(&[0, 0], AUTHOR).expect("a page");
+        assert_eq!((*counts(&mut session), session.mean(AUTHOR)), (most, Ok((1, 0))));
     }
 }

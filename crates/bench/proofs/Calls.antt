@@ -6,11 +6,13 @@ use Prim.Native.Nat.{ℕ, suc, _+_, _/_, _≤_}
 use native.Mathlib.Omega.{arith}
 use lib.Dec.{eqb}
 use lib.ListN.{length}
+use Rattle.ipl.specs.Authors.{program}
 use Rattle.ipl.specs.Search.{Outcome, valid, refuted, refused, unfinished}
-use Rattle.ipl.specs.Book.{Book, addFlat, addImplication, Call, add, question, opened, additionRefusal, refusal, next, answer, numberOf}
+use Rattle.ipl.specs.Book.{Book, addFlat, addImplication, Call, add, question, opened, additionRefusal, refusal, next, answerTo, numberOf}
 use Rattle.ipl.proofs.Book.{Reached, opened-reached, next-reached}
 use Rattle.prover.specs.State.{book}
 use Rattle.prover.specs.InRange.{inRange}
+use Rattle.prover.specs.Work.{worksOf, noneDone}
 use Rattle.prover.specs.Calls.{NothingHeld, Opened, VerdictIs}
 use Rattle.prover.specs.Demand as made
 use Rattle.prover.specs.declared.Session.{Session}
@@ -29,7 +31,7 @@ pub record Stands (k : Book) (s : Session) : Type 0 where
 opened-stands : (n : ℕ) (r : Changed) → Opened n r → Stands (opened n) (r .session)
 opened-stands n r o =
     let reached : Reached (book (r .session)) = subst Reached (sym (o .holds)) (opened-reached n) in
-    record { holds = o .holds; in-range = nothing-in-range 0 (r .session) reached (o .nothing); reached = reached }
+    record { holds = o .holds; in-range = nothing-in-range noneDone (r .session) reached (o .nothing); reached = reached }
 
 verdict-number : (g : ℕ) (x : Answered) (o : Outcome) → VerdictIs g o x → numberTold (x .verdict) ≡ numberOf o
 unfolding numberOf
@@ -46,9 +48,9 @@ module _ (s : Session) (in-range : inRange s ≡ true) (reached : Reached (book 
   kept-stands : (c : Call) (u : Session) → Kept s c u → Stands (next (book s) c) u
   kept-stands c u kept = record { holds = kept .0; in-range = kept .1; reached = subst Reached (sym (kept .0)) (next-reached (book s) c reached) }
 
-  added-done : (c : Call) (r : Changed) → ByBook s c (NothingHeld (s .total)) r
+  added-done : (c : Call) (r : Changed) → ByBook s c (NothingHeld (worksOf (s .authors))) r
       → (r .refusal ≡ refusal (book s) c) × Stands (next (book s) c) (r .session)
-  added-done c r m = (change-answer s in-range reached c (NothingHeld (s .total)) r m, kept-stands c (r .session) (dropped-kept s in-range reached c r m))
+  added-done c r m = (change-answer s in-range reached c (NothingHeld (worksOf (s .authors))) r m, kept-stands c (r .session) (dropped-kept s in-range reached c r m))
 
   called-done : (x : Act) (r : Changed) → Called s x r → Done (book s) x r
   unfolding refusal additionRefusal
@@ -56,8 +58,8 @@ module _ (s : Session) (in-range : inRange s ≡ true) (reached : Reached (book 
   called-done (adding (addFlat f)) r m = added-done (add (addFlat f)) r m
   called-done (adding (addImplication i)) r m = added-done (add (addImplication i)) r m
   called-done (asking g) r (x, m, e, p) = (
-    p ∙ verdict-number g x (answer (book s) g) (asked-as s in-range reached g x m .0),
-    subst (Stands (next (book s) (question g))) (sym e) (kept-stands (question g) (x .session) (call-kept s in-range reached (made.question g) x m)),
+    p ∙ verdict-number g x (answerTo (book s) program g) (asked-as s in-range reached program g x m .0),
+    subst (Stands (next (book s) (question program g))) (sym e) (kept-stands (question program g) (x .session) (call-kept s in-range reached (made.question program g) x m)),
   )
 
 pub one-at-most : (number : ℕ) → oneIfRefused number ≤ 1

@@ -7,6 +7,7 @@ use lib.Dec.{eqb}
 use lib.ListN.{length, getD}
 use Rattle.atoms.specs.Words.{rowOf}
 use Rattle.ipl.specs.Clause.{Flat}
+use Rattle.ipl.specs.Authors.{program}
 use Rattle.ipl.specs.Book.{Book, Addition, addFlat, addImplication, add, question, opened, openRefusal, refusal, next}
 use Rattle.prover.specs.Calls.{Opened, Added, Asked}
 use Rattle.prover.specs.declared.Session.{Session}
@@ -37,12 +38,12 @@ actAt calls sets i =
 abbrev pub numberMet : Book → Act → ℕ
 numberMet k (opening n) = openRefusal n
 numberMet k (adding x) = refusal k (add x)
-numberMet k (asking g) = refusal k (question g)
+numberMet k (asking g) = refusal k (question program g)
 
 abbrev pub bookAfter : Book → Act → Book
 bookAfter k (opening n) = opened n
 bookAfter k (adding x) = next k (add x)
-bookAfter k (asking g) = next k (question g)
+bookAfter k (asking g) = next k (question program g)
 
 abbrev pub oneIfRefused : ℕ → ℕ
 oneIfRefused number = cond (eqb number 0) 0 1
@@ -66,7 +67,7 @@ numberTold (Refuted worlds) = 0
 numberTold (Refused number place) = number
 
 abbrev pub QuestionPut : Session → ℕ → Changed → Type 0
-QuestionPut s g r = (x : Answered) × Asked s g x × (r .session ≡ x .session) × (r .refusal ≡ numberTold (x .verdict))
+QuestionPut s g r = (x : Answered) × Asked s program g x × (r .session ≡ x .session) × (r .refusal ≡ numberTold (x .verdict))
 
 abbrev pub Called : Session → Act → Changed → Type 0
 Called s (opening n) r = Opened n r

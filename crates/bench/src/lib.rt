@@ -52,7 +52,7 @@ fn one_if_refused(number: u8) -> u64
 fn ask(s: Session, goal: u8) -> Changed
     ensures { λ r. ⌜ QuestionPut s goal r ⌝ }
 {
-    let answered = prover::ask(s, goal);
+    let answered = prover::ask(s, ipl::PROGRAM, goal);
     let verdict = answered.verdict;
     let session = answered.session;
     Changed {

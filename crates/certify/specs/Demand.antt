@@ -10,9 +10,9 @@ use lib.ListN.{length, take}
 use Rattle.ipl.specs.Book as B
 use Rattle.ipl.specs.Search.{Outcome}
 use Rattle.ipl.specs.Page.{Entry, searched, refutedBy}
-use Rattle.ipl.specs.Book.{Book, Call, opened, answer, refusal, afterEntry, entries, next}
+use Rattle.ipl.specs.Book.{Book, Call, opened, answerTo, refusal, afterEntry, entries, next}
 use Rattle.prover.specs.Calls.{Opened}
-use Rattle.prover.specs.Demand.{Made, callOf, sessionOf, Run}
+use Rattle.prover.specs.Demand.{Made, callOf, Run, endOf}
 use Rattle.prover.specs.declared.Session.{Session}
 use Rattle.prover.specs.declared.Changed.{Changed}
 use Rattle.certificate.specs.Certificate.{Claim, accepted}
@@ -45,21 +45,16 @@ keepsEntries k (g ∷ gs) (e ∷ es) x = keepsEntries (afterEntry k e) gs es (ke
 -- it stays.
 abbrev pub keeps : Book → Call → Option Certificate → Option Certificate
 keeps k (B.add a) x = cond (eqb (refusal k (B.add a)) 0) none x
-keeps k (B.question g) x = keepsAnswer k g (answer k g) x
+keeps k (B.question a g) x = keepsAnswer k g (answerTo k a g) x
 keeps k (B.setMark j) x = x
 keeps k (B.returnTo j) x = cond (eqb (refusal k (B.returnTo j)) 0) none x
-keeps k (B.page gs) x = cond (eqb (refusal k (B.page gs)) 0) (keepsEntries k gs (entries k gs) x) x
+keeps k (B.page a gs) x = cond (eqb (refusal k (B.page a gs)) 0) (keepsEntries k gs (entries k gs) x) x
 
 -- "The session keeps its last verdict until a clause is added", or a mark returned to; by the book alone: x is what there was before
 -- the calls.
 unfoldable pub lastAnswer : Book → Option Certificate → List Call → Option Certificate
 lastAnswer k x [] = x
 lastAnswer k x (c ∷ cs) = lastAnswer (next k c) (keeps k c x) cs
-
--- The session that a run ends with.
-abbrev pub endOf : (s : Session) (cs : List Made) → Run s cs → Session
-endOf s [] run = s
-endOf s (c ∷ cs) run = endOf (sessionOf c (run .0)) cs (run .2)
 
 -- Of what was written of s into a buffer, where x is the problem and answer.
 pub record CertificateWritten (s : Session) (x : Certificate) (before : List ℕ) (r : Length) (after : List ℕ) : Type 0 where

@@ -8,14 +8,16 @@ use native.Mathlib.Omega.{arith}
 use Rattle.ipl.specs.Kripke.{Model, IsModel, forces, shown}
 use Rattle.ipl.specs.Claim.{Countermodel}
 use Rattle.ipl.specs.Search.{Outcome, valid, refuted, refused, unfinished}
+use Rattle.ipl.specs.Authors.{program}
 use Rattle.ipl.specs.Book.{Book, goalRefusal, answer}
 use Rattle.ipl.specs.Demand as demand
 use Rattle.ipl.specs.Demand.{isValid, isRefuted}
 use Rattle.ipl.proofs.Forcing.{forces-decidable}
 use Rattle.ipl.proofs.Soundness.{atom-persists}
 use Rattle.ipl.proofs.Limits.{Ended}
-use Rattle.ipl.proofs.Book.{Reached, goal-taken, question-settled, question-ended}
+use Rattle.ipl.proofs.Book.{Reached, goal-taken, goal-settled, goal-ended}
 use Rattle.prover.specs.State.{worldsOf, book}
+use Rattle.prover.specs.Work.{noneDone}
 use Rattle.prover.specs.Calls.{Asked, AskedAs}
 use Rattle.prover.specs.InRange.{inRange}
 use Rattle.prover.specs.declared.Session.{Session}
@@ -93,7 +95,7 @@ module _ (s : List ℕ) (t : Formula) (accepted : Accepted s t) (r : Settled) (u
   reached = subst Reached (sym (holds .clauses)) (text-reached t)
 
   in-range : inRange u ≡ true
-  in-range = nothing-in-range 0 u reached (holds .nothing)
+  in-range = nothing-in-range noneDone u reached (holds .nothing)
 
   goal-ok : goalRefusal (book u) (r .goal) ≡ 0
   goal-ok = goal-taken (book u) (r .goal) (rw (ap (λ (k : Book). k .n) (holds .clauses ∙ text-book t few), holds .goal) (goal-in-range t few))
@@ -104,7 +106,7 @@ module _ (s : List ℕ) (t : Formula) (accepted : Accepted s t) (r : Settled) (u
       ap (λ (k : Book). Countermodel (k .flats) (k .implications) (r .goal) m) (holds .clauses ∙ text-book t few)
       ∙ ap (λ (g : ℕ). Countermodel (flatsBy (calls (nodes t .table))) (implicationsBy (calls (nodes t .table))) g m) (holds .goal)
 
-  says : (o : Outcome) → demand.Settled (book u) (r .goal) o → Ended o → AskedAs u (r .goal) o answered → Says s (r .verdict) (worldsOf (r .session .worlds))
+  says : (o : Outcome) → demand.Settled (book u) (r .goal) o → Ended o → AskedAs u program (r .goal) o answered → Says s (r .verdict) (worldsOf (r .session .worlds))
   unfolding isValid isRefuted demand.worldsOf
   says (valid end) c e a =
       subst (λ (v : Verdict). Says s v (worldsOf (r .session .worlds))) (sym (a .0 .verdict))
@@ -115,10 +117,10 @@ module _ (s : List ℕ) (t : Formula) (accepted : Accepted s t) (r : Settled) (u
   says (refused number) c e a = subst (λ (v : Verdict). Says s v (worldsOf (r .session .worlds))) (sym (a .0)) (inr (t, accepted, e))
   says unfinished c e a = absurd (a .0)
 
-  answer-says : Asked u (r .goal) answered → Says s (r .verdict) (worldsOf (r .session .worlds))
+  answer-says : Asked u program (r .goal) answered → Says s (r .verdict) (worldsOf (r .session .worlds))
   answer-says a =
-      says (answer (book u) (r .goal)) (question-settled (book u) (r .goal) reached goal-ok) (question-ended (book u) (r .goal) reached goal-ok)
-      (asked-as u in-range reached (r .goal) answered a)
+      says (answer (book u) (r .goal)) (goal-settled (book u) (r .goal) reached goal-ok) (goal-ended (book u) (r .goal) reached goal-ok)
+      (asked-as u in-range reached program (r .goal) answered a)
 
 pub demand-two : DemandTwo
 demand-two s r = by-judgement (judge s) (judge-right s)

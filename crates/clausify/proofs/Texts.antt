@@ -7,9 +7,11 @@ use lib.ListN.{length, getD}
 use Rattle.atoms.proofs.Machine.{limit-least}
 use Rattle.ipl.specs.Lists.{tabulate}
 use Rattle.ipl.specs.Clause.{bot, Flat}
+use Rattle.ipl.specs.Authors.{program}
 use Rattle.ipl.specs.Book.{Book, opened}
 use Rattle.sat.specs.Table.{clauses}
 use Rattle.prover.specs.State.{implicationsOf, stepsOf, marksOf, book}
+use Rattle.prover.specs.Work.{noneDone}
 use Rattle.prover.specs.Calls.{NothingHeld, Asked}
 use Rattle.prover.specs.declared.Session.{Session}
 use Rattle.prover.specs.declared.Implications.{Implications}
@@ -82,7 +84,7 @@ module _ (s : List ℕ) (root : ℕ) (p : Parts) (h : Read s root p) where
   pub root-row : root < room
   root-row = omega (arith, root-in, held-length p (h .sound), h .sound .bounded)
 
-  pub read-clausified : (n : Names) → NamesOf (held p) n → length (n .atoms) ≡ room → (q : Session) → book q ≡ tableBook (held p) → NothingHeld 0 q
+  pub read-clausified : (n : Names) → NamesOf (held p) n → length (n .atoms) ≡ room → (q : Session) → book q ≡ tableBook (held p) → NothingHeld noneDone q
       → ClausifiedAs (judge s) (record { refusal = 0; place = 0; session = q; goal = getD (n .atoms) root 0 })
   unfolding goalOf
   read-clausified n o l q e nothing =
@@ -97,7 +99,7 @@ module _ (s : List ℕ) (root : ℕ) (p : Parts) (h : Read s root p) where
         },
       )
 
-pub refused-clausified : (s : List ℕ) (number place : ℕ) → Refused s number place → (q : Session) → book q ≡ opened 1 → NothingHeld 0 q
+pub refused-clausified : (s : List ℕ) (number place : ℕ) → Refused s number place → (q : Session) → book q ≡ opened 1 → NothingHeld noneDone q
     → ClausifiedAs (judge s) (record { refusal = number; place = place; session = q; goal = bot })
 refused-clausified s number place h q e nothing =
     subst (λ (j : Judgement). ClausifiedAs j (record { refusal = number; place = place; session = q; goal = bot })) (sym (judge-only s (refused number place) h))
@@ -115,7 +117,7 @@ pub settled-refused : (j : Judgement) (q : Clausified) → ClausifiedAs j q → 
 settled-refused (refused number place) q h n = (ap₂ verdict.Refused (h .0) (h .1), h .2)
 settled-refused (accepted t) q h n = absurd (n (h .0))
 
-pub settled-asked : (s : List ℕ) (j : Judgement) → Right s j → (q : Clausified) → ClausifiedAs j q → q .refusal ≡ 0 → (a : Answered) → Asked (q .session) (q .goal) a
+pub settled-asked : (s : List ℕ) (j : Judgement) → Right s j → (q : Clausified) → ClausifiedAs j q → q .refusal ≡ 0 → (a : Answered) → Asked (q .session) program (q .goal) a
     → SettledAs j (record { verdict = a .verdict; session = a .session; goal = q .goal })
 settled-asked s (refused number place) r q h e a k = absurd (refusal-number s number place r (sym (h .0) ∙ e))
 settled-asked s (accepted t) r q h e a k = (q .session, h .2, k)

@@ -1,14 +1,18 @@
 -- Demands 2 and 3 for texts: what a verdict on a text says of its formula, and that every run of calls on its session follows its book.
-use mathlib.Core.List.{List}
+use mathlib.Core.List.{List, _∷_, map}
 use mathlib.Core.Logic.{_⊎_}
 use mathlib.Core.Path.{_≡_}
 use Prim.Native.Nat.{ℕ}
+use Rattle.ipl.specs.Authors.{program}
 use Rattle.ipl.specs.Book as B
 use Rattle.ipl.specs.Book.{Book, answer, next}
+use Rattle.ipl.specs.Work.{decided}
 use Rattle.ipl.specs.Kripke.{Model, IsModel, forcesAtom, forces, shown}
 use Rattle.prover.specs.State.{worldsOf}
 use Rattle.prover.specs.Calls.{VerdictIs}
-use Rattle.prover.specs.Demand.{Made, Run, Follows}
+use Rattle.prover.specs.Work.{worksOf}
+use Rattle.prover.specs.Demand.{Made, callOf, Run, endOf, Follows}
+use Rattle.prover.specs.Counts.{WorkRight, CountsFrom}
 use Rattle.prover.specs.declared.Session.{Session}
 use Rattle.prover.specs.declared.Verdict.{Verdict}
 use Rattle.prover.specs.declared.Verdict.the-variants.{Valid, Refuted, Refused}
@@ -57,9 +61,17 @@ abbrev pub SettledFollows : Judgement → Settled → Type 0
 SettledFollows (refused number place) r = EveryRunFollows (B.opened 1) (r .session)
 SettledFollows (accepted f) r =
     VerdictIs (goalOf f) (answer (textBook f) (goalOf f)) (record { verdict = r .verdict; session = r .session })
-    × EveryRunFollows (next (textBook f) (B.question (goalOf f))) (r .session)
+    × EveryRunFollows (next (textBook f) (B.question program (goalOf f))) (r .session)
+
+-- The goals decided since are the text's own, which the program put, and those of the run.
+abbrev pub SettledCounts : Judgement → Settled → Type 0
+SettledCounts (refused number place) r = CountsFrom (B.opened 1) (r .session)
+SettledCounts (accepted f) r = (cs : List Made) (run : Run (r .session) cs)
+    → WorkRight (decided (textBook f) (B.question program (goalOf f) ∷ map callOf cs)) (worksOf (endOf (r .session) cs run .authors))
 
 -- "So demand 3 reaches it": for every text, refused or not, the session of its clauses, and the one that its verdict came with.
 pub record DemandThree (s : List ℕ) : Type 0 where
   pub clausified : (r : Clausified) → ClausifiedAs (judge s) r → EveryRunFollows (bookOf (judge s)) (r .session)
   pub settled : (r : Settled) → SettledAs (judge s) r → SettledFollows (judge s) r
+  pub clausified-counts : (r : Clausified) → ClausifiedAs (judge s) r → CountsFrom (bookOf (judge s)) (r .session)
+  pub settled-counts : (r : Settled) → SettledAs (judge s) r → SettledCounts (judge s) r

@@ -9,6 +9,7 @@ ghost use mathlib.Core.Path.{_≡_};
 ghost use Prim.Native.Nat.{max};
 ghost use Rattle.prover.specs.State.{book};
 ghost use Rattle.prover.specs.Calls.{NothingHeld};
+ghost use Rattle.prover.specs.Work.{noneDone};
 ghost use Rattle.syntax.specs.Judge.{judge};
 ghost use Rattle.syntax.specs.Parts.{held};
 ghost use Rattle.clausify.specs.Additions.{tableBook};
@@ -44,7 +45,7 @@ fn atom_count(names: u8) -> u8
 // The session of a formula's clauses.
 fn session_of(parts: Parts, names: Names) -> Session
     requires { ⌜ Nameable parts names ⌝ }
-    ensures { λ r. ⌜ (book r ≡ tableBook (held parts)) × NothingHeld 0 r ⌝ }
+    ensures { λ r. ⌜ (book r ≡ tableBook (held parts)) × NothingHeld noneDone r ⌝ }
 {
     let fresh = prover::open(atom_count(names.count));
     let s = fresh.session;
@@ -56,15 +57,16 @@ fn session_of(parts: Parts, names: Names) -> Session
     let worlds = s.worlds;
     let held = s.held;
     let marks = s.marks;
+    let authors = s.authors;
     Session {
         n: s.n,
         flats,
         implications: implication_clauses::implications_of(parts, names),
         steps,
         worlds,
-        total: s.total,
         held,
         marks,
+        authors,
     }
 }
 
@@ -105,7 +107,7 @@ pub fn settle(text: &[u8]) -> Settled
     let problem = clausify(text);
     let goal = problem.goal;
     if problem.refusal == 0 {
-        let answered = prover::ask(problem.session, goal);
+        let answered = prover::ask(problem.session, ipl::PROGRAM, goal);
         let verdict = answered.verdict;
         let session = answered.session;
         Settled {

@@ -19,8 +19,9 @@ use Rattle.ipl.specs.Search.{Step, State, Outcome, valid, refuted, refus
 use Rattle.ipl.specs.Kripke.{Model, shown}
 use Rattle.ipl.specs.Claim.{Countermodel, StepsRight}
 use Rattle.ipl.specs.Marks.{markTable, placeOf, isSet}
+use Rattle.ipl.specs.Authors.{isAuthor}
 use Rattle.ipl.specs.Book.{Book, Addition, addFlat, addImplication, Call, add, question, setMark, returnTo, page, countInRange, opened, flatsFull}
-use Rattle.ipl.specs.Book.{flatRefusal, implicationRefusal, additionRefusal, goalRefusal, answer, markRefusal, returnRefusal, refusal}
+use Rattle.ipl.specs.Book.{flatRefusal, implicationRefusal, additionRefusal, goalRefusal, answer, questionRefusal, answerTo, markRefusal, returnRefusal, refusal}
 use Rattle.ipl.specs.Book.{added, stepsAfter, afterAnswer, taken, next, after}
 use Rattle.ipl.specs.Demand.{isValid, isRefuted, isVerdict, Settled, RowsWellFormed, Marked, WellFormed, Answered, Claims}
 use Rattle.ipl.proofs.Lists.{All-map, All-append, any-left, any-last}
@@ -30,6 +31,7 @@ use Rattle.ipl.proofs.Steps.{steps-more, step-numbers, clauses-same, de
 use Rattle.ipl.proofs.Witness.{Witnessed, witnessed-none, witnessed-same}
 use Rattle.ipl.proofs.Search.{OutcomeRight, search-right}
 use Rattle.ipl.proofs.Marks.{Longer, same, marked-map, longer-marked, set-marked, returned-marked}
+use Rattle.ipl.proofs.Authors.{author-zero}
 use Rattle.ipl.proofs.Page.{valid-right, refuted-right, no-verdict-right, entries-kept, page-settled}
 use Rattle.ipl.proofs.Limits.{Fits, Ended, search-ends, search-fits, verdict-iff-needs-no-more, eight-atoms}
 
@@ -269,8 +271,8 @@ module _ (k : Book) (g : ℕ) (r : Reached k) where
       (eqb (goalRefusal k g) 0) outcome (refused (goalRefusal k g))
       (λ _. (outcome-right, search-fits (k .n) (k .flats) (k .implications) g (k .steps) (r .rows .well-formed .step-count))) (λ _. (tt, tt))
 
-  pub question-reached : Reached (afterAnswer k (answer k g))
-  question-reached =
+  pub goal-reached : Reached (afterAnswer k (answer k g))
+  goal-reached =
       longer-marked RowsReached k r (same (k .flats)) (same (k .implications)) (steps-longer (answer k g) (answer-right .0))
       (steps-reached (answer k g) (answer-right .0) (answer-right .1))
 
@@ -299,13 +301,31 @@ module _ (k : Book) (g : ℕ) (r : Reached k) where
     settled (refused number) h v = record { right = no-verdict-right k g (refused number) (λ t. t); verdict-iff = v; eight = eight }
     settled unfinished h v = record { right = no-verdict-right k g unfinished (λ t. t); verdict-iff = v; eight = eight }
 
-  pub question-settled : goalRefusal k g ≡ 0 → Settled k g (answer k g)
-  question-settled e =
+  pub goal-settled : goalRefusal k g ≡ 0 → Settled k g (answer k g)
+  goal-settled e =
       rw (answer-searched k g e)
       (settled (atom-or-bot (k .n) g (goal-unrefused k g e)) outcome outcome-right (verdict-iff-needs-no-more (k .n) (k .flats) (k .implications) g (k .steps) (r .rows .well-formed .step-count)))
 
-  pub question-ended : goalRefusal k g ≡ 0 → Ended (answer k g)
-  question-ended e = rw (answer-searched k g e) (search-ends (k .n) (k .flats) (k .implications) g (k .steps))
+  pub goal-ended : goalRefusal k g ≡ 0 → Ended (answer k g)
+  goal-ended e = rw (answer-searched k g e) (search-ends (k .n) (k .flats) (k .implications) g (k .steps))
+
+-- ---- a question, which names its author
+
+pub question-reached : (k : Book) (a g : ℕ) → Reached k → Reached (afterAnswer k (answerTo k a g))
+unfolding stepsAfter
+question-reached k a g r = by-cond (λ o. Reached (afterAnswer k o)) (isAuthor a) (answer k g) (refused 20) (λ _. goal-reached k g r) (λ _. r)
+
+question-settled : (k : Book) (a g : ℕ) → Reached k → questionRefusal k a g ≡ 0 → Settled k g (answerTo k a g)
+question-settled k a g r e = let z = author-zero a (goalRefusal k g) e in rw (z .0) (goal-settled k g r (z .1))
+
+-- A verdict is one to an author, and on the goal.
+pub verdict-from : (k : Book) (a g : ℕ) (o : Outcome) → answerTo k a g ≡ o → T (isVerdict o) → (isAuthor a ≡ true) × (answer k g ≡ o)
+unfolding isValid isRefuted
+verdict-from k a g o e v = by-author (isAuthor a) refl e
+  where
+    by-author : (b : Bool) → isAuthor a ≡ b → cond b (answer k g) (refused 20) ≡ o → (isAuthor a ≡ true) × (answer k g ≡ o)
+    by-author true known e = (known, e)
+    by-author false unknown e = absurd (subst (λ (o : Outcome). T (isVerdict o)) (sym e) v)
 
 -- ---- every call, and every list of calls
 
@@ -318,10 +338,10 @@ added-reached k (addImplication i) r e =
 taken-reached : (k : Book) (c : Call) → Reached k → refusal k c ≡ 0 → Reached (taken k c)
 unfolding refusal taken
 taken-reached k (add a) r e = added-reached k a r e
-taken-reached k (question g) r e = question-reached k g r
+taken-reached k (question a g) r e = question-reached k a g r
 taken-reached k (setMark j) r e = set-marked RowsReached k r j (mark-unrefused j e)
 taken-reached k (returnTo j) r e = returned-marked RowsReached k r (placeOf j (k .marks)) (return-unrefused k j e)
-taken-reached k (page gs) r e = entries-kept Reached question-reached gs k [] 0 r
+taken-reached k (page a gs) r e = entries-kept Reached goal-reached gs k [] 0 r
 
 pub next-reached : (k : Book) (c : Call) → Reached k → Reached (next k c)
 unfolding next
@@ -344,10 +364,10 @@ refused-unchanged k c h = rw (ne-eqb (refusal k c) 0 h)
 
 answered : (k : Book) (c : Call) → Reached k → Answered k c
 answered k (add a) r = tt
-answered k (question g) r = question-settled k g r
+answered k (question a g) r = question-settled k a g r
 answered k (setMark j) r = tt
 answered k (returnTo j) r = tt
-answered k (page gs) r = page-settled Reached question-reached (λ k g r t. question-settled k g r (goal-taken k g t)) k gs r
+answered k (page a gs) r = page-settled Reached goal-reached (λ k g r t. goal-settled k g r (goal-taken k g t)) k a gs r
 
 well-formed : (k : Book) → Reached k → WellFormed k
 well-formed = marked-map (λ n F X S r. r .well-formed)

@@ -12,6 +12,8 @@ pub mod Witness
 pub mod Search
 pub mod Limits
 pub mod Marks
+pub mod Authors
 pub mod Page
 pub mod Book
 pub mod Returns
+pub mod Work

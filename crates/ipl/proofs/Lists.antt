@@ -10,7 +10,7 @@ use native.Mathlib.Omega.{arith}
 use lib.Arith.{lt-of-le-ne}
 use lib.Dec.{T, eqb}
 use lib.ListN.{length, getD, take, length-append, List·getD-append}
-use lib.Seq.{getD-append-seam, take-all, take-append-le}
+use lib.Seq.{getD-append-seam, take-all, take-append-le, ext-getD}
 use borrow.Author.Tests.{eqb-true, eq-eqb, ne-eqb}
 use native.Mathlib.Numerals.{add-one}
 use Rattle.atoms.proofs.Truth.{T-left, T-right, T-and, T-or, T-inl, T-inr, T-iff, T-true, T-false, true-T, false-T, by-cond}
@@ -147,6 +147,12 @@ tabulate-at f d (suc n) i l = elim (decLt i n) [
       let e : i ≡ n = omega arith in
       rw e (subst (λ (j : ℕ). getD (tabulate f n ++ (f n ∷ [])) j d ≡ f n) (tabulate-length f n) (getD-append-seam (tabulate f n) (f n) [] d))
 ]
+
+-- The rows of a list are the list.
+pub tabulate-rows : {A : Type 0} (d : A) (l : List A) (n : ℕ) → length l ≡ n → tabulate (λ i. getD l i d) n ≡ l
+tabulate-rows d l n size =
+    ext-getD d (tabulate (λ i. getD l i d) n) l (tabulate-length (λ i. getD l i d) n ∙ sym size)
+    (λ i h. tabulate-at (λ i. getD l i d) d n i (omega (arith, h, tabulate-length (λ i. getD l i d) n)))
 
 pub tabulate-take : {A : Type 0} (f : ℕ → A) (n i : ℕ) → i ≤ n → take i (tabulate f n) ≡ tabulate f i
 unfolding tabulate

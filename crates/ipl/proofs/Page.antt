@@ -21,6 +21,7 @@ use Rattle.ipl.specs.Page.{goalTable, Found, earliest, Entry, searched, 
 use Rattle.ipl.specs.Book.{Book, pageRefusal, answer, afterAnswer, entryBy, afterEntry, entriesFrom, entries, afterEntries}
 use Rattle.ipl.specs.Demand.{isValid, isRefuted, isVerdict, worldsOf, VerdictRight, Settled, ownOutcome, outcomeOf, GoalSettled, GoalsSettled, PageSettled}
 use Rattle.ipl.proofs.Lists.{all-All, All-append}
+use Rattle.ipl.proofs.Authors.{author-zero}
 
 -- ---- verdicts
 
@@ -76,17 +77,17 @@ same-verdict {o = o} {p} same a b v w =
 
 -- ---- a page that is not refused
 
-pub page-few : (k : Book) (gs : List ℕ) → pageRefusal k gs ≡ 0 → length gs ≤ goalTable
+pub page-few : (k : Book) (a : ℕ) (gs : List ℕ) → pageRefusal k a gs ≡ 0 → length gs ≤ goalTable
 unfolding pageRefusal
-page-few k gs = go (leb (length gs) goalTable) refl
+page-few k a gs e = go (leb (length gs) goalTable) refl (author-zero a _ e .1)
   where
     go : (a : Bool) → leb (length gs) goalTable ≡ a → _≡_ {A = ℕ} (cond a (cond (all (atomOrBot (k .n)) gs) 0 6) 19) 0 → length gs ≤ goalTable
     go true e r = leb-true (length gs) goalTable e
     go false e r = absurd (omega arith)
 
-pub page-unrefused : (k : Book) (gs : List ℕ) → pageRefusal k gs ≡ 0 → All (λ g. T (atomOrBot (k .n) g)) gs
+pub page-unrefused : (k : Book) (a : ℕ) (gs : List ℕ) → pageRefusal k a gs ≡ 0 → All (λ g. T (atomOrBot (k .n) g)) gs
 unfolding pageRefusal
-page-unrefused k gs = go (leb (length gs) goalTable) (all (atomOrBot (k .n)) gs) refl
+page-unrefused k a gs e = go (leb (length gs) goalTable) (all (atomOrBot (k .n)) gs) refl (author-zero a _ e .1)
   where
     go : (a b : Bool) → all (atomOrBot (k .n)) gs ≡ b → _≡_ {A = ℕ} (cond a (cond b 0 6) 19) 0 → All (λ g. T (atomOrBot (k .n) g)) gs
     go true true e r = all-All (atomOrBot (k .n)) gs (subst T (sym e) tt)
@@ -217,7 +218,7 @@ module _ (P : Book → Type 0) (keeps : (k : Book) (g : ℕ) → P k → P (afte
 
 -- A page that is not refused.
 pub page-settled : (P : Book → Type 0) → ((k : Book) (g : ℕ) → P k → P (afterAnswer k (answer k g)))
-    → ((k : Book) (g : ℕ) → P k → T (atomOrBot (k .n) g) → Settled k g (answer k g)) → (k : Book) (gs : List ℕ) → P k → pageRefusal k gs ≡ 0 → PageSettled k gs
-page-settled P keeps settles k gs start e =
-    goals-settled P keeps settles k start (entries k gs) gs (page-unrefused k gs e) k []
+    → ((k : Book) (g : ℕ) → P k → T (atomOrBot (k .n) g) → Settled k g (answer k g)) → (k : Book) (a : ℕ) (gs : List ℕ) → P k → pageRefusal k a gs ≡ 0 → PageSettled k gs
+page-settled P keeps settles k a gs start e =
+    goals-settled P keeps settles k start (entries k gs) gs (page-unrefused k a gs e) k []
     (record { holds = start; same = record { n = refl; flats = refl; implications = refl }; shows = tt }) 0 [] refl refl

@@ -8,14 +8,16 @@ use borrow.Author.Tests.{eqb-true}
 use Rattle.atoms.proofs.Truth.{by-cond}
 use Rattle.ipl.specs.Lists.{All}
 use Rattle.ipl.specs.Clause.{closings}
+use Rattle.ipl.specs.Search.{refused}
+use Rattle.ipl.specs.Authors.{isAuthor}
 use Rattle.ipl.specs.Marks.{markTable, Mark, others, placeOf, markAt}
 use Rattle.ipl.specs.Book.{Book, Addition, addFlat, addImplication, Call, add, question, setMark, returnTo, page}
-use Rattle.ipl.specs.Book.{opened, answer, afterAnswer, markNow, refusal, added, returned, taken, next, after}
+use Rattle.ipl.specs.Book.{opened, answer, stepsAfter, afterAnswer, markNow, refusal, added, returned, taken, next, after}
 use Rattle.ipl.specs.Demand.{OfRows, Remembers, SameRows, ComesBack}
 use Rattle.ipl.proofs.Lists.{All-at, All-map}
 use Rattle.ipl.proofs.Marks.{same, others-all, others-differ, set-all, place-number, longer-remembers, cut-remembers, now-remembers, there-remembers, kept-all}
 use Rattle.ipl.proofs.Page.{entries-kept}
-use Rattle.ipl.proofs.Book.{Reached, RowsReached, opened-reached, next-reached, after-reached, next-taken, mark-unrefused, return-unrefused, steps-longer, answer-right, question-reached}
+use Rattle.ipl.proofs.Book.{Reached, RowsReached, opened-reached, next-reached, after-reached, next-taken, mark-unrefused, return-unrefused, steps-longer, answer-right, goal-reached}
 
 -- Mark j was set when b was held.
 module _ (j : ℕ) (b : Book) where
@@ -47,19 +49,20 @@ module _ (j : ℕ) (b : Book) where
       kept-all RowsReached k r i inside (Known k) (Known (returned k i))
       (λ m f x s c e. cut-remembers (markAt (k .marks) i) m (there-remembers RowsReached k r i inside) f x s (c e)) h
 
-  question-known : (k : Book) (g : ℕ) → Reached k → AllKnown k → AllKnown (afterAnswer k (answer k g))
-  question-known k g r h =
+  goal-known : (k : Book) (g : ℕ) → Reached k → AllKnown k → AllKnown (afterAnswer k (answer k g))
+  goal-known k g r h =
       All-map (k .marks) (λ m c e. longer-remembers (same (k .flats)) (same (k .implications)) (steps-longer k g r (answer k g) (answer-right k g r .0)) m (c e)) h
 
   taken-known : (k : Book) (c : Call) → Reached k → (c ≡ setMark j → ⊥) → refusal k c ≡ 0 → AllKnown k → AllKnown (taken k c)
-  unfolding taken refusal
+  unfolding taken refusal stepsAfter
   taken-known k (add a) r d e h = added-known k a h
-  taken-known k (question g) r d e h = question-known k g r h
+  taken-known k (question a g) r d e h =
+      by-cond (λ o. AllKnown (afterAnswer k o)) (isAuthor a) (answer k g) (refused 20) (λ _. goal-known k g r h) (λ _. h)
   taken-known k (setMark i) r d e h =
       set-all (Known k) (markNow k i) (k .marks) (others-all i (Known k) (k .marks) h) (λ e. absurd (d (ap setMark e)))
   taken-known k (returnTo i) r d e h = returned-known k (placeOf i (k .marks)) (return-unrefused k i e) r h
-  taken-known k (page gs) r d e h =
-      entries-kept (λ k. Reached k × AllKnown k) (λ k g p. (question-reached k g (p .0), question-known k g (p .0) (p .1))) gs k [] 0 (r, h) .1
+  taken-known k (page a gs) r d e h =
+      entries-kept (λ k. Reached k × AllKnown k) (λ k g p. (goal-reached k g (p .0), goal-known k g (p .0) (p .1))) gs k [] 0 (r, h) .1
 
   next-known : (k : Book) (c : Call) → Reached k → (c ≡ setMark j → ⊥) → AllKnown k → AllKnown (next k c)
   unfolding next

@@ -12,6 +12,7 @@ use Rattle.ipl.specs.Range.{flatTable, implicationTable, atomOrBot, flat
 use Rattle.ipl.specs.Search.{Step, Outcome, valid, refuted, refused, unfinished, search}
 use Rattle.ipl.specs.Marks.{markTable, Mark, setLast, placeOf, isSet, markAt}
 use Rattle.ipl.specs.Page.{goalTable, Found, earliest, Entry, searched, refutedBy, foundBy}
+use Rattle.ipl.specs.Authors.{isAuthor, authorNumber}
 
 -- "It has n, flat clauses, implications and learned steps, each in order"; and marks, in the order in which they were last set.
 pub record Book : Type 0 where
@@ -26,13 +27,14 @@ pub data Addition : Type 0 where
   addFlat : Flat → Addition
   addImplication : Implication → Addition
 
--- "putting a question"; setting a mark, coming back to it and a page of goals "join demand 3's list".
+-- "putting a question"; setting a mark, coming back to it and a page of goals "join demand 3's list". "A question or a page now names one
+-- author", who stands first.
 pub data Call : Type 0 where
   add : Addition → Call
-  question : ℕ → Call
+  question : ℕ → ℕ → Call
   setMark : ℕ → Call
   returnTo : ℕ → Call
-  page : List ℕ → Call
+  page : ℕ → List ℕ → Call
 
 unfoldable pub countInRange : ℕ → Bool
 countInRange n = leb 1 n && leb n limit
@@ -70,6 +72,13 @@ goalRefusal k g = cond (atomOrBot (k .n) g) 0 6
 unfoldable pub answer : Book → ℕ → Outcome
 answer k g = cond (eqb (goalRefusal k g) 0) (search (k .n) (k .flats) (k .implications) g (k .steps)) (refused (goalRefusal k g))
 
+-- The caller's refusals of a question: 20, then 6; and its answer.
+abbrev pub questionRefusal : Book → ℕ → ℕ → ℕ
+questionRefusal k a g = authorNumber a (goalRefusal k g)
+
+abbrev pub answerTo : Book → ℕ → ℕ → Outcome
+answerTo k a g = cond (isAuthor a) (answer k g) (refused 20)
+
 unfoldable pub numberOf : Outcome → ℕ
 numberOf (valid s) = 0
 numberOf (refuted s) = 0
@@ -84,17 +93,17 @@ markRefusal j = cond (ltb j markTable) 0 17
 unfoldable pub returnRefusal : Book → ℕ → ℕ
 returnRefusal k j = cond (ltb j markTable) (cond (isSet j (k .marks)) 0 18) 17
 
--- "6 for any goal, before the first is searched; 19 for more than 64, before that."
-unfoldable pub pageRefusal : Book → List ℕ → ℕ
-pageRefusal k gs = cond (leb (length gs) goalTable) (cond (all (atomOrBot (k .n)) gs) 0 6) 19
+-- "6 for any goal, before the first is searched; 19 for more than 64, before that"; 20 before both.
+unfoldable pub pageRefusal : Book → ℕ → List ℕ → ℕ
+pageRefusal k a gs = authorNumber a (cond (leb (length gs) goalTable) (cond (all (atomOrBot (k .n)) gs) 0 6) 19)
 
 -- The number of the refusal that a call meets; 0 for none. A goal of a page that meets 11 or 12 "has that in its record".
 unfoldable pub refusal : Book → Call → ℕ
 refusal k (add a) = additionRefusal k a
-refusal k (question g) = numberOf (answer k g)
+refusal k (question a g) = numberOf (answerTo k a g)
 refusal k (setMark j) = markRefusal j
 refusal k (returnTo j) = returnRefusal k j
-refusal k (page gs) = pageRefusal k gs
+refusal k (page a gs) = pageRefusal k a gs
 
 -- What an addition makes of the book.
 unfoldable pub added : Book → Addition → Book
@@ -161,11 +170,11 @@ returned k i = cutTo k (markAt (k .marks) i) (take (suc i) (k .marks))
 -- What a call that is not refused makes of the book.
 unfoldable pub taken : Book → Call → Book
 taken k (add a) = added k a
-taken k (question g) = afterAnswer k (answer k g)
+taken k (question a g) = afterAnswer k (answerTo k a g)
 taken k (setMark j) =
     record { n = k .n; flats = k .flats; implications = k .implications; steps = k .steps; marks = setLast (markNow k j) (k .marks) }
 taken k (returnTo j) = returned k (placeOf j (k .marks))
-taken k (page gs) = afterEntries k (entries k gs)
+taken k (page a gs) = afterEntries k (entries k gs)
 
 -- "A call that meets one of the caller's refusals, judged by the book, changes nothing", nor does one that meets 11 or 12.
 unfoldable pub next : Book → Call → Book

@@ -15,7 +15,7 @@ use Rattle.ipl.specs.Kripke.{Model, shown}
 use Rattle.ipl.specs.Claim.{Countermodel, StepsRight}
 use Rattle.ipl.specs.Marks.{markTable, Mark}
 use Rattle.ipl.specs.Page.{Entry, searched, refutedBy}
-use Rattle.ipl.specs.Book.{Book, Call, add, question, setMark, returnTo, page, opened, goalRefusal, pageRefusal, answer, afterEntry, entries, refusal, next, after}
+use Rattle.ipl.specs.Book.{Book, Call, add, question, setMark, returnTo, page, opened, questionRefusal, pageRefusal, answer, answerTo, afterEntry, entries, refusal, next, after}
 
 unfoldable pub isValid : Outcome → Bool
 isValid (valid s) = true
@@ -134,10 +134,10 @@ WellFormed = Marked RowsWellFormed
 -- Of a question or a page "that meets none of the caller's refusals", that its answer is settled.
 abbrev pub Answered : Book → Call → Type 0
 Answered k (add a) = Unit {0}
-Answered k (question g) = goalRefusal k g ≡ 0 → Settled k g (answer k g)
+Answered k (question a g) = questionRefusal k a g ≡ 0 → Settled k g (answerTo k a g)
 Answered k (setMark j) = Unit {0}
 Answered k (returnTo j) = Unit {0}
-Answered k (page gs) = pageRefusal k gs ≡ 0 → PageSettled k gs
+Answered k (page a gs) = pageRefusal k a gs ≡ 0 → PageSettled k gs
 
 -- Of a call to the book k, refused or not.
 pub record Claim (k : Book) (c : Call) : Type 0 where

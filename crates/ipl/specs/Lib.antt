@@ -9,5 +9,7 @@ pub mod Kripke
 pub mod Claim
 pub mod Marks
 pub mod Page
+pub mod Authors
 pub mod Book
+pub mod Work
 pub mod Demand

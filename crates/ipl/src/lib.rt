@@ -24,6 +24,11 @@ pub const MARKS: usize = 8;
 // The goals of a page.
 pub const GOALS: usize = 64;
 
+// The authors whose work is counted, and the one that the program is.
+pub const AUTHORS: usize = 16;
+
+pub const PROGRAM: u8 = 0;
+
 // The flat clauses and the clauses of the steps.
 pub const KNOWN: usize = FLATS + STEPS;
 

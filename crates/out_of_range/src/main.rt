@@ -1,5 +1,5 @@
-// Executed cases that no script can say: sessions and verdicts that no call gives, the end of the total, buffers of every length,
-// records that hold something.
+// Executed cases that no script can say: sessions and verdicts that no call gives, the ends of an author's counts, buffers of every
+// length, records that hold something.
 // `stdout` was worked out apart from this code.
 use atoms::AtomSet;
 use certify::Length;
@@ -10,10 +10,12 @@ use prover::GoalRecord;
 use prover::Held;
 use prover::Implications;
 use prover::Mark;
+use prover::PerVerdict;
 use prover::Records;
 use prover::Session;
 use prover::Steps;
 use prover::Verdict;
+use prover::Work;
 use prover::Worlds;
 
 // The sessions have atoms 0 to 2; this is the set of atom 3.
@@ -21,8 +23,11 @@ const OUTSIDE: u64 = 8;
 
 const MOST_ATOMS: u8 = 64;
 
-// Where the total stays.
-const LAST_TOTAL: u32 = 4294967295;
+// The last author, who asks wherever no other is named.
+const AUTHOR: u8 = 15;
+
+// Where an author's counts stay.
+const MOST: u32 = 4294967295;
 
 // What a buffer is filled with; no certificate begins with it.
 const UNWRITTEN: u8 = 238;
@@ -72,7 +77,9 @@ fn print_session(s: Session) {
     print_number(b", implications ", s.implications.count);
     print_number(b", steps ", s.steps.count);
     print_number(b", worlds ", s.worlds.count);
-    print_number(b", total ", s.total as usize);
+    let work = prover::work_of(s.authors, AUTHOR);
+    print_number(b", questions ", work.questions as usize);
+    print_number(b" in ", work.verdicts as usize);
     let held = s.held;
     print_held(held);
     print(b"\n");
@@ -102,7 +109,7 @@ fn print_calls(s: Session) {
     let c = AtomSet::single(2);
     let flat = prover::add_flat(s, c, c);
     let implication = prover::add_implication(flat.session, 2, 2, 2);
-    let answered = prover::ask(implication.session, 1);
+    let answered = prover::ask(implication.session, AUTHOR, 1);
     let verdict = answered.verdict;
     print_byte(b"; flat ", flat.refusal);
     print_byte(b", implication ", implication.refusal);
@@ -128,8 +135,8 @@ fn asked() -> Session {
     let opened = prover::open(3);
     let flat = prover::add_flat(opened.session, AtomSet::single(0), AtomSet::single(1));
     let implication = prover::add_implication(flat.session, 0, 1, 2);
-    let valid = prover::ask(implication.session, 2);
-    let refuted = prover::ask(valid.session, 0);
+    let valid = prover::ask(implication.session, AUTHOR, 2);
+    let refuted = prover::ask(valid.session, AUTHOR, 0);
     refuted.session
 }
 
@@ -139,15 +146,16 @@ fn with_held(s: Session, held: Held) -> Session {
     let steps = s.steps;
     let worlds = s.worlds;
     let marks = s.marks;
+    let authors = s.authors;
     Session {
         n: s.n,
         flats,
         implications,
         steps,
         worlds,
-        total: s.total,
         held,
         marks,
+        authors,
     }
 }
 
@@ -223,7 +231,7 @@ fn wrong_worlds(s: Session) {
 fn print_marks(what: &[u8], s: Session) {
     let set = prover::set_mark(s, 1);
     let back = prover::return_to(set.session, 0);
-    let answered = prover::ask(back.session, 2);
+    let answered = prover::ask(back.session, AUTHOR, 2);
     let verdict = answered.verdict;
     let marks = answered.session.marks;
     print(what);
@@ -289,17 +297,85 @@ fn unreached_marks(s: Session) {
     );
 }
 
-fn atom_counts_and_totals(s: Session) {
+fn with_work(s: Session, questions: u32, verdicts: u32) -> Session {
+    let mut t = s;
+    let mut authors = s.authors;
+    authors.rows[AUTHOR as usize] = Work {
+        questions,
+        verdicts,
+    };
+    t.authors = authors;
+    t
+}
+
+fn print_question(what: &[u8], s: Session, author: u8, goal: u8) {
+    let answered = prover::ask(s, author, goal);
+    let verdict = answered.verdict;
+    print(what);
+    print(b": question");
+    print_verdict(verdict);
+    print_session(answered.session);
+}
+
+fn print_mean(what: &[u8], s: Session, author: u8) {
+    print(what);
+    match prover::mean(s, author) {
+        PerVerdict::Questions(whole, remainder) => {
+            print_number(b": mean ", whole as usize);
+            print_number(b" remainder ", remainder as usize);
+        }
+        PerVerdict::Refused(number) => print_byte(b": mean refused ", number),
+    }
+    print(b"\n");
+}
+
+fn means(s: Session) {
+    print_mean(b"of the author", s, AUTHOR);
+    print_mean(b"of another", s, 0);
+    print_mean(b"of author 16", s, AUTHOR + 1);
+    print_mean(b"of author 255", s, 255);
+    print_mean(b"7 in 3", with_work(s, 7, 3), AUTHOR);
+    print_mean(b"7 in none", with_work(s, 7, 0), AUTHOR);
+    print_mean(b"none in 3", with_work(s, 0, 3), AUTHOR);
+    print_mean(b"most in one", with_work(s, MOST, 1), AUTHOR);
+    print_mean(
+        b"most in one short of that",
+        with_work(s, MOST, MOST - 1),
+        AUTHOR,
+    );
+    print_mean(
+        b"one short of that in most",
+        with_work(s, MOST - 1, MOST),
+        AUTHOR,
+    );
+    let mut t = with_work(s, 7, 0);
+    t.n = 0;
+    print_mean(b"n 0 and no verdict", t, AUTHOR);
+    print_mean(b"n 0 and author 16", t, AUTHOR + 1);
+}
+
+fn authors(s: Session) {
+    print_question(b"author 0", s, 0, 0);
+    print_question(b"author 15", s, AUTHOR, 0);
+    print_question(b"author 16", s, AUTHOR + 1, 0);
+    print_question(b"author 255 and goal 3", s, 255, 3);
+    print_question(b"goal 3", s, AUTHOR, 3);
+    let mut t = s;
+    t.n = 0;
+    print_question(b"n 0 and author 16", t, AUTHOR + 1, 0);
+    let short = with_work(s, MOST - 1, MOST - 1);
+    tried(b"counts one short of their end", short);
+    tried(b"counts at their end", with_work(s, MOST, MOST));
+    tried(b"questions at their end", with_work(s, MOST, 0));
+    means(s);
+}
+
+fn atom_counts(s: Session) {
     let mut t = s;
     t.n = 0;
     tried(b"n 0", t);
     t.n = MOST_ATOMS + 1;
     tried(b"n 65", t);
-    t.n = s.n;
-    t.total = LAST_TOTAL - 1;
-    tried(b"total one short of its end", t);
-    t.total = LAST_TOTAL;
-    tried(b"total at its end", t);
 }
 
 fn verdicts(s: Session) {
@@ -393,11 +469,11 @@ fn written(goal: u8) -> GoalRecord {
     }
 }
 
-// A page of so many records, the first with one goal and the others with another; what the first two then hold, and the session.
-fn print_page(what: &[u8], s: Session, count: usize, first: u8, other: u8) {
+// An author's page of so many records, the first with one goal and the others with another; what the first two then hold, and the session.
+fn print_page(what: &[u8], s: Session, author: u8, count: usize, first: u8, other: u8) {
     let mut rows = [written(other); ipl::GOALS + 1];
     rows[0] = written(first);
-    let paged = prover::page_of(Records { count, rows }, s);
+    let paged = prover::page_of(Records { count, rows }, s, author);
     let changed = paged.changed;
     let after = paged.records;
     print(what);
@@ -409,25 +485,30 @@ fn print_page(what: &[u8], s: Session, count: usize, first: u8, other: u8) {
 }
 
 fn pages(s: Session) {
-    print_page(b"no goal", s, 0, 0, 0);
-    print_page(b"one goal", s, 1, 2, 0);
-    print_page(b"two goals", s, 2, 0, ipl::BOTTOM);
-    print_page(b"64 goals", s, 64, 0, 2);
-    print_page(b"65 goals", s, 65, 0, 2);
-    print_page(b"more goals than rows", s, 66, 0, 2);
-    print_page(b"goal 3 behind another", s, 2, 0, 3);
-    print_page(b"65 goals, one of them 3", s, 65, 3, 0);
+    print_page(b"no goal", s, AUTHOR, 0, 0, 0);
+    print_page(b"one goal", s, AUTHOR, 1, 2, 0);
+    print_page(b"two goals", s, AUTHOR, 2, 0, ipl::BOTTOM);
+    print_page(b"64 goals", s, AUTHOR, 64, 0, 2);
+    print_page(b"65 goals", s, AUTHOR, 65, 0, 2);
+    print_page(b"more goals than rows", s, AUTHOR, 66, 0, 2);
+    print_page(b"goal 3 behind another", s, AUTHOR, 2, 0, 3);
+    print_page(b"65 goals, one of them 3", s, AUTHOR, 65, 3, 0);
+    print_page(b"page of author 0", s, 0, 2, 0, 0);
+    print_page(b"page of author 16", s, AUTHOR + 1, 1, 0, 0);
+    print_page(b"page of author 16, 65 goals", s, AUTHOR + 1, 65, 0, 0);
+    print_page(b"page of author 255, goal 3", s, 255, 1, 3, 0);
+    let most = with_work(s, MOST, MOST - 1);
+    print_page(b"questions at their end", most, AUTHOR, 2, 0, 0);
     let mut t = s;
-    t.total = LAST_TOTAL;
-    print_page(b"total at its end", t, 2, 0, 0);
     t.n = 0;
-    print_page(b"n 0 and 65 goals", t, 65, 0, 0);
+    print_page(b"n 0 and 65 goals", t, AUTHOR, 65, 0, 0);
+    print_page(b"n 0 and author 16", t, AUTHOR + 1, 1, 0, 0);
 }
 
 fn main() {
     let s = asked();
     tried(b"in range", s);
-    atom_counts_and_totals(s);
+    atom_counts(s);
     wrong_flats(s);
     wrong_implications(s);
     wrong_steps(s);
@@ -437,5 +518,6 @@ fn main() {
     verdicts(s);
     buffers(s);
     longest(full(s));
+    authors(s);
     pages(s);
 }

@@ -1,5 +1,5 @@
 -- What every call keeps: a reached book, and a session in range.
-use mathlib.Core.Bool.{Bool, true, cond, _&&_}
+use mathlib.Core.Bool.{Bool, true, false, cond, _&&_}
 use mathlib.Core.List.{List, []}
 use mathlib.Core.Path.{_≡_, refl, sym, ap, _∙_, subst}
 use Prim.Native.Nat.{ℕ, _^_, _≤_, _<_}
@@ -16,7 +16,8 @@ use Rattle.ipl.specs.Range.{flatTable, implicationTable, stepTable, worldTable,
 use Rattle.ipl.specs.Search.{State, Outcome, valid, refuted, refused, unfinished, stepInRange}
 use Rattle.ipl.specs.Marks.{markTable, Mark}
 use Rattle.ipl.specs.Book as B
-use Rattle.ipl.specs.Book.{Book, Call, countInRange, goalRefusal, answer, refusal, numberOf, stepsAfter, taken, next}
+use Rattle.ipl.specs.Authors.{isAuthor}
+use Rattle.ipl.specs.Book.{Book, Call, countInRange, goalRefusal, answer, answerTo, refusal, numberOf, stepsAfter, taken, next}
 use Rattle.ipl.specs.Demand.{RowsWellFormed, Remembers}
 use Rattle.ipl.proofs.Lists.{All-all, All-map, tabulate-length}
 use Rattle.ipl.proofs.Steps.{right-steps-in-range}
@@ -26,7 +27,9 @@ use Rattle.ipl.proofs.Marks.{few-marks}
 use Rattle.ipl.proofs.Book.{RowsReached, Reached, next-reached, goal-unrefused, answer-right}
 use Rattle.prover.specs.State.{implicationRow, stepRow, markRow, flatsOf, implicationsOf, stepsOf, worldsOf, marksOf, book}
 use Rattle.prover.specs.InRange.{flatsInRange, implicationsInRange, stepsInRange, worldsInRange, heldInRange, markInRange, marksInRange, inRange}
-use Rattle.prover.specs.Calls.{number, outcome, NothingHeld, VerdictKept, Changes, Given, withSteps, Searched, AskedAs}
+use Rattle.prover.specs.Work.{worksOf}
+use Rattle.prover.specs.Calls.{number, NothingHeld, VerdictKept, Changes, Given, withSteps, Searched, AskedAs, Asked}
+use Rattle.prover.specs.declared.Work.{Work}
 use Rattle.prover.specs.declared.Session.{Session}
 use Rattle.prover.specs.declared.Changed.{Changed}
 use Rattle.prover.specs.declared.Answered.{Answered}
@@ -104,14 +107,14 @@ module _ (s : Session) (r : Reached (book s)) where
       (le→leb (s .worlds .count) worldTable (omega (arith, few, ap length shows, tabulate-length (rowOf (s .worlds .sets)) (s .worlds .count))))
       (rw shows (All-all (setInRange (s .n)) W (All-map W (λ M l. lt→ltb M (2 ^ s .n) l) below)))
 
-pub nothing-in-range : (total : ℕ) (s : Session) → Reached (book s) → NothingHeld total s → inRange s ≡ true
+pub nothing-in-range : (W : List Work) (s : Session) → Reached (book s) → NothingHeld W s → inRange s ≡ true
 unfolding heldInRange
-nothing-in-range total s r h =
+nothing-in-range W s r h =
     reached-in-range s r (worlds-in-range s r [] (h .no-worlds) (omega arith) tt) (subst (λ (v : Held). T (heldInRange (s .n) v)) (sym (h .no-verdict)) tt)
 
 -- As after another session in range, whose verdict it keeps.
-verdict-in-range : (s u : Session) → inRange s ≡ true → u .n ≡ s .n → Reached (book u) → VerdictKept s u → inRange u ≡ true
-verdict-in-range s u i e r h =
+pub verdict-in-range : (W : List Work) (s u : Session) → inRange s ≡ true → u .n ≡ s .n → Reached (book u) → VerdictKept W s u → inRange u ≡ true
+verdict-in-range W s u i e r h =
     let p = parts s i in
     reached-in-range u r (rw (e, h .same-worlds) (p .worlds)) (rw (e, h .same-verdict) (p .held))
 
@@ -145,32 +148,33 @@ module _ (s : Session) (in-range : inRange s ≡ true) (r : Reached (book s)) wh
           (ap book same ∙ rw (ne-eqb (refusal (book s) c) 0 d), subst (λ (u : Session). inRange u ≡ true) (sym same) in-range)
     ]
 
-  pub dropped-kept : (c : Call) (x : Changed) → ByBook s c (NothingHeld (s .total)) x → Kept s c (x .session)
-  dropped-kept c x a = change-kept c (NothingHeld (s .total)) x a (λ _. nothing-in-range (s .total) (x .session))
+  pub dropped-kept : (c : Call) (x : Changed) → ByBook s c (NothingHeld (worksOf (s .authors))) x → Kept s c (x .session)
+  dropped-kept c x a = change-kept c (NothingHeld (worksOf (s .authors))) x a (λ _. nothing-in-range (worksOf (s .authors)) (x .session))
 
-  pub set-kept : (j : ℕ) (x : Changed) → ByBook s (B.setMark j) (VerdictKept s) x → Kept s (B.setMark j) (x .session)
+  pub set-kept : (j : ℕ) (x : Changed) → ByBook s (B.setMark j) (VerdictKept (worksOf (s .authors)) s) x → Kept s (B.setMark j) (x .session)
   unfolding taken
-  set-kept j x a = change-kept (B.setMark j) (VerdictKept s) x a (λ b. verdict-in-range s (x .session) in-range (ap (λ (k : Book). k .n) b))
+  set-kept j x a =
+      change-kept (B.setMark j) (VerdictKept (worksOf (s .authors)) s) x a (λ b. verdict-in-range (worksOf (s .authors)) s (x .session) in-range (ap (λ (k : Book). k .n) b))
 
   -- ---- questions
-  module _ (g : ℕ) (x : Answered) where
-    -- The book after an answer o.
-    next-is : (o : Outcome) → answer (book s) g ≡ o → next (book s) (B.question g) ≡ cond (eqb (numberOf o) 0) (withSteps s (stepsAfter (stepsOf (s .steps)) o)) (book s)
+  module _ (w g : ℕ) (x : Answered) (known : isAuthor w ≡ true) where
+    -- The book after an answer o to author w.
+    next-is : (o : Outcome) → answer (book s) g ≡ o → next (book s) (B.question w g) ≡ cond (eqb (numberOf o) 0) (withSteps s (stepsAfter (stepsOf (s .steps)) o)) (book s)
     unfolding next taken refusal
-    next-is o e = ap (λ (o : Outcome). cond (eqb (numberOf o) 0) (withSteps s (stepsAfter (stepsOf (s .steps)) o)) (book s)) e
+    next-is o e = rw (known, e)
 
     -- A question that comes to a verdict, and what its answer says.
-    module _ {o : Outcome} {end : State} {v : Verdict} {h : Held} (e : answer (book s) g ≡ o) (no-refusal : numberOf o ≡ 0) (a : Given v h end x) (l : Searched s end (x .session)) where
-      same-book : stepsAfter (stepsOf (s .steps)) o ≡ end .steps → book (x .session) ≡ next (book s) (B.question g)
+    module _ {o : Outcome} {end : State} {v : Verdict} {h : Held} (e : answer (book s) g ≡ o) (no-refusal : numberOf o ≡ 0) (a : Given v h end x) (l : Searched s w end (x .session)) where
+      same-book : stepsAfter (stepsOf (s .steps)) o ≡ end .steps → book (x .session) ≡ next (book s) (B.question w g)
       same-book same = l .holds ∙ sym (next-is o e ∙ rw (eq-eqb (numberOf o) 0 no-refusal, same))
 
       same-n : x .session .n ≡ s .n
       same-n = ap (λ (k : Book). k .n) (l .holds)
 
       answer-kept : stepsAfter (stepsOf (s .steps)) o ≡ end .steps → length (end .worlds) ≤ worldTable → All (λ M. M < 2 ^ s .n) (end .worlds)
-          → T (heldInRange (s .n) h) → Kept s (B.question g) (x .session)
+          → T (heldInRange (s .n) h) → Kept s (B.question w g) (x .session)
       answer-kept same few below goal =
-          let reached : Reached (book (x .session)) = subst Reached (sym (same-book same)) (next-reached (book s) (B.question g) r) in (
+          let reached : Reached (book (x .session)) = subst Reached (sym (same-book same)) (next-reached (book s) (B.question w g) r) in (
             same-book same,
             reached-in-range (x .session) reached (worlds-in-range (x .session) reached (end .worlds) (a .shows) few (subst (λ (n : ℕ). All (λ M. M < 2 ^ n) (end .worlds)) (sym same-n) below))
                 (subst (λ (v : Held). T (heldInRange (x .session .n) v)) (sym (a .kept)) (subst (λ (n : ℕ). T (heldInRange n h)) (sym same-n) goal)),
@@ -185,7 +189,7 @@ module _ (s : Session) (in-range : inRange s ≡ true) (r : Reached (book s)) wh
     ])
 
     kept : (o : Outcome) → answer (book s) g ≡ o
-        → OutcomeRight (s .n) (flatsOf (s .flats)) (implicationsOf (s .implications)) g (stepsOf (s .steps)) o × Fits o → AskedAs s g o x → Kept s (B.question g) (x .session)
+        → OutcomeRight (s .n) (flatsOf (s .flats)) (implicationsOf (s .implications)) g (stepsOf (s .steps)) o × Fits o → AskedAs s w g o x → Kept s (B.question w g) (x .session)
     unfolding numberOf stepsAfter heldInRange
     kept (valid end) e h a =
         answer-kept e refl (a .0) (a .1) refl (rw (h .1 .1) (omega arith)) (rw (h .1 .1) tt) (verdict-goal (valid end) e refl)
@@ -197,8 +201,18 @@ module _ (s : Session) (in-range : inRange s ≡ true) (r : Reached (book s)) wh
     )
     kept unfinished e h a = absurd (a .0)
 
-    pub asked-as : AskedAs s g (outcome s g) x → AskedAs s g (answer (book s) g) x
-    asked-as a = subst (λ (b : Bool). AskedAs s g (cond b (answer (book s) g) (refused 5)) x) in-range a
+    pub answered-kept : AskedAs s w g (answer (book s) g) x → Kept s (B.question w g) (x .session)
+    answered-kept a = kept (answer (book s) g) refl (answer-right (book s) g r) a
 
-  pub asked-kept : (g : ℕ) (x : Answered) → AskedAs s g (answer (book s) g) x → Kept s (B.question g) (x .session)
-  asked-kept g x a = kept g x (answer (book s) g) refl (answer-right (book s) g r) a
+  pub asked-as : (w g : ℕ) (x : Answered) → Asked s w g x → AskedAs s w g (answerTo (book s) w g) x
+  asked-as w g x a = subst (λ (b : Bool). AskedAs s w g (cond b (answerTo (book s) w g) (refused 5)) x) in-range a
+
+  pub asked-kept : (w g : ℕ) (x : Answered) → AskedAs s w g (answerTo (book s) w g) x → Kept s (B.question w g) (x .session)
+  unfolding next refusal numberOf
+  asked-kept w g x a = by-author (isAuthor w) refl
+    where
+      by-author : (b : Bool) → isAuthor w ≡ b → Kept s (B.question w g) (x .session)
+      by-author true known = answered-kept w g x known (rw known at a)
+      by-author false unknown =
+          let same : x .session ≡ s = (rw unknown at a) .1 in
+          (ap book same ∙ rw unknown, subst (λ (u : Session). inRange u ≡ true) (sym same) in-range)

@@ -3,6 +3,7 @@ pub mod Ranges
 pub mod Sessions
 pub mod Rows
 pub mod MarkRows
+pub mod Works
 pub mod ModelRows
 pub mod Pages
 pub mod Underway
@@ -21,3 +22,4 @@ pub mod Answers
 pub mod Keeping
 pub mod PageRuns
 pub mod DemandThree
+pub mod Counts

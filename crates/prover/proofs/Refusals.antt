@@ -1,9 +1,10 @@
 -- Laws of the refusals' numbers: what a call that meets none may rely on.
-use mathlib.Core.Bool.{Bool, true, false, cond}
+use mathlib.Core.Bool.{true, cond}
 use mathlib.Core.List.{List, [], _∷_, _++_, append-nil}
 use mathlib.Core.Logic.{_⊎_, inl, inr}
 use mathlib.Core.Path.{_≡_, refl, sym, ap, _∙_}
 use Prim.Native.Nat.{ℕ, _<_}
+use native.Mathlib.Decide.{decLe}
 use native.Mathlib.Omega.{arith}
 use lib.Dec.{eqb, leb}
 use lib.ListN.{length}
@@ -13,11 +14,13 @@ use Rattle.ipl.specs.Range.{flatTable, implicationTable}
 use Rattle.ipl.specs.Book.{Book, flatRefusal, implicationRefusal, flatsFull}
 use Rattle.ipl.proofs.Lists.{tabulate-length}
 use Rattle.ipl.proofs.Range.{implication-below, single-one}
+use Rattle.ipl.proofs.Authors.{passes-test, author-zero}
 use Rattle.ipl.proofs.Book.{flat-unrefused, ImplicationUnrefused, implication-unrefused}
 use Rattle.sat.specs.Table.{clauseAt, clauses}
 use Rattle.prover.specs.State.{implicationRow, flatsOf, implicationsOf, book}
 use Rattle.prover.specs.InRange.{inRange}
-use Rattle.prover.specs.Calls.{number, flatNumber, implicationNumber, ClosingFits, Changes}
+use Rattle.prover.specs.Work.{workAt, worksOf}
+use Rattle.prover.specs.Calls.{number, meanNumber, flatNumber, implicationNumber, ClosingFits, Changes}
 use Rattle.prover.specs.declared.Session.{Session}
 use Rattle.prover.proofs.Sessions.{few-atoms}
 
@@ -27,11 +30,14 @@ clauses-length left right count = tabulate-length (clauseAt left right) count
 
 -- A number that is 0 is that of a session in range.
 pub number-zero : (s : Session) (k : ℕ) → number s k ≡ 0 → (inRange s ≡ true) × (k ≡ 0)
-number-zero s k = go (inRange s)
-  where
-    go : (b : Bool) → cond b k 5 ≡ 0 → (b ≡ true) × (k ≡ 0)
-    go true e = (refl, e)
-    go false e = absurd (omega arith)
+number-zero s k = passes-test (inRange s) k 4
+
+-- A mean that is not refused is of an author who has a verdict.
+pub mean-zero : (s : Session) (a : ℕ) → meanNumber s a ≡ 0 → 0 < workAt (worksOf (s .authors)) a .verdicts
+mean-zero s a e =
+    let verdicts = workAt (worksOf (s .authors)) a .verdicts in
+    let z = author-zero a (cond (eqb verdicts 0) 21 0) (number-zero s _ e .1) .1 in
+    elim (decLe verdicts 0) [ yes l ↦ omega (arith, rw (eq-eqb verdicts 0 (omega arith)) at z) | no l ↦ omega arith ]
 
 -- ---- a call that is taken, and one that is refused
 

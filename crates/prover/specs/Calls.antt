@@ -2,20 +2,26 @@
 use mathlib.Core.Bool.{cond}
 use mathlib.Core.List.{List, []}
 use mathlib.Core.Path.{_≡_}
-use Prim.Native.Nat.{ℕ, _+_, _<_, min}
+use Prim.Native.Nat.{ℕ, _/_, _%_, _<_}
+use lib.Dec.{eqb}
 use lib.ListN.{length}
 use Rattle.atoms.specs.Words.{num, singleOrEmpty}
 use Rattle.ipl.specs.Clause.{bot, one, Flat, Implication}
 use Rattle.ipl.specs.Range.{flatTable}
 use Rattle.ipl.specs.Search.{Step, State, Outcome, valid, refuted, refused, unfinished}
-use Rattle.ipl.specs.Book.{Book, Addition, addFlat, addImplication, add, setMark, returnTo, opened, answer, taken}
-use Rattle.ipl.specs.Book.{openRefusal, flatRefusal, implicationRefusal, goalRefusal, markRefusal, returnRefusal}
+use Rattle.ipl.specs.Authors.{authorNumber}
+use Rattle.ipl.specs.Book.{Book, Addition, addFlat, addImplication, add, setMark, returnTo, opened, answerTo, taken}
+use Rattle.ipl.specs.Book.{openRefusal, flatRefusal, implicationRefusal, questionRefusal, markRefusal, returnRefusal}
 use Rattle.prover.specs.State.{flatsOf, implicationsOf, worldsOf, marksOf, book}
 use Rattle.prover.specs.InRange.{inRange}
+use Rattle.prover.specs.Work.{workAt, worksOf, noneDone, withDecided}
 use Rattle.prover.specs.declared.Held.{Held}
 use Rattle.prover.specs.declared.Held.the-variants as held
 use Rattle.prover.specs.declared.Verdict.{Verdict}
 use Rattle.prover.specs.declared.Verdict.the-variants as verdict
+use Rattle.prover.specs.declared.PerVerdict.{PerVerdict}
+use Rattle.prover.specs.declared.PerVerdict.the-variants as per-verdict
+use Rattle.prover.specs.declared.Work.{Work}
 use Rattle.prover.specs.declared.Flats.{Flats}
 use Rattle.prover.specs.declared.Session.{Session}
 use Rattle.prover.specs.declared.Changed.{Changed}
@@ -47,17 +53,17 @@ markNumber s j = number s (markRefusal j)
 abbrev pub returnNumber : Session → ℕ → ℕ
 returnNumber s j = number s (returnRefusal (book s) j)
 
--- No verdict, no world, and the total of questions as it was.
-pub record NothingHeld (total : ℕ) (s : Session) : Type 0 where
+-- No verdict, no world, and this work of the authors.
+pub record NothingHeld (W : List Work) (s : Session) : Type 0 where
   pub no-verdict : s .held ≡ held.Nothing
   pub no-worlds : worldsOf (s .worlds) ≡ []
-  pub same-total : s .total ≡ total
+  pub work : worksOf (s .authors) ≡ W
 
--- The verdict, the worlds and the total of questions as they were in s.
-pub record VerdictKept (s r : Session) : Type 0 where
+-- The verdict and the worlds as they were in s, and this work of the authors.
+pub record VerdictKept (W : List Work) (s r : Session) : Type 0 where
   pub same-verdict : r .held ≡ s .held
   pub same-worlds : r .worlds ≡ s .worlds
-  pub same-total : r .total ≡ s .total
+  pub work : worksOf (r .authors) ≡ W
 
 -- There is room for the closing clause of (a → b) → c, if it has one, and b and c are atoms or ⊥.
 pub record ClosingFits (t : Flats) (b c : ℕ) : Type 0 where
@@ -69,7 +75,7 @@ pub record ClosingFits (t : Flats) (b c : ℕ) : Type 0 where
 pub record Opened (n : ℕ) (r : Changed) : Type 0 where
   pub refused : r .refusal ≡ openRefusal n
   pub holds : book (r .session) ≡ opened n
-  pub nothing : NothingHeld 0 (r .session)
+  pub nothing : NothingHeld noneDone (r .session)
 
 -- A call on s that meets `refusal`, or makes its book `next` and leaves the rest of the session so.
 pub record Changes (s : Session) (refusal : ℕ) (next : Book) (Rest : Session → Type 0) (r : Changed) : Type 0 where
@@ -80,7 +86,7 @@ pub record Changes (s : Session) (refusal : ℕ) (next : Book) (Rest : Session �
 
 -- The contracts of the two additions.
 abbrev pub Added : Session → Addition → Changed → Type 0
-Added s x = Changes s (additionNumber s x) (taken (book s) (add x)) (NothingHeld (s .total))
+Added s x = Changes s (additionNumber s x) (taken (book s) (add x)) (NothingHeld (worksOf (s .authors)))
 
 abbrev pub FlatAdded : Session → AtomSet → AtomSet → Changed → Type 0
 FlatAdded s left right = Added s (addFlat (flatOf left right))
@@ -88,26 +94,18 @@ FlatAdded s left right = Added s (addFlat (flatOf left right))
 abbrev pub ImplicationAdded : Session → ℕ → ℕ → ℕ → Changed → Type 0
 ImplicationAdded s a b c = Added s (addImplication (record { a = a; b = b; c = c }))
 
--- Those of marks: "any verdict held" is dropped by a return, and stays where one is set.
+-- Those of marks: "any verdict held" is dropped by a return, and stays where one is set; "no return to a mark lowers either number".
 abbrev pub MarkSet : Session → ℕ → Changed → Type 0
-MarkSet s j = Changes s (markNumber s j) (taken (book s) (setMark j)) (VerdictKept s)
+MarkSet s j = Changes s (markNumber s j) (taken (book s) (setMark j)) (VerdictKept (worksOf (s .authors)) s)
 
 abbrev pub MarkReturned : Session → ℕ → Changed → Type 0
-MarkReturned s j = Changes s (returnNumber s j) (taken (book s) (returnTo j)) (NothingHeld (s .total))
+MarkReturned s j = Changes s (returnNumber s j) (taken (book s) (returnTo j)) (NothingHeld (worksOf (s .authors)))
 
 -- ---- questions
 
--- 5, or the number that the book has for the goal.
-abbrev pub goalNumber : Session → ℕ → ℕ
-goalNumber s g = number s (goalRefusal (book s) g)
-
--- "One total counts the classical questions .. it stays at 4,294,967,295 once there."
-abbrev pub mostTotal : ℕ
-mostTotal = 4294967295
-
--- The total after this many questions more.
-abbrev pub totalAfter : ℕ → ℕ → ℕ
-totalAfter total questions = min (total + questions) mostTotal
+-- 5, or the number that the book has for author a and the goal g.
+abbrev pub questionNumber : Session → ℕ → ℕ → ℕ
+questionNumber s a g = number s (questionRefusal (book s) a g)
 
 -- The answer gives the verdict v; its session keeps it as h, and shows the worlds of the search's end.
 pub record Given (v : Verdict) (h : Held) (end : State) (r : Answered) : Type 0 where
@@ -127,26 +125,46 @@ abbrev pub withSteps : Session → List Step → Book
 withSteps s S =
     record { n = s .n; flats = flatsOf (s .flats); implications = implicationsOf (s .implications); steps = S; marks = marksOf (s .marks) }
 
--- The session r after s and a search that ended there: the same clauses, the search's steps, and its questions counted.
-pub record Searched (s : Session) (end : State) (r : Session) : Type 0 where
+-- The session r after s and a search for author a that ended there: the same clauses, the search's steps, and its questions counted.
+pub record Searched (s : Session) (a : ℕ) (end : State) (r : Session) : Type 0 where
   pub holds : book r ≡ withSteps s (end .steps)
-  pub total : r .total ≡ totalAfter (s .total) (end .questions)
+  pub work : worksOf (r .authors) ≡ withDecided (worksOf (s .authors)) (record { author = a; questions = end .questions })
 
 -- What the session holds besides the verdict; a refusal leaves it as it was.
-abbrev Leaves : Session → Outcome → Session → Type 0
-Leaves s (valid end) r = Searched s end r
-Leaves s (refuted end) r = Searched s end r
-Leaves s (refused number) r = r ≡ s
-Leaves s unfinished r = ⊥
+abbrev Leaves : Session → ℕ → Outcome → Session → Type 0
+Leaves s a (valid end) r = Searched s a end r
+Leaves s a (refuted end) r = Searched s a end r
+Leaves s a (refused number) r = r ≡ s
+Leaves s a unfinished r = ⊥
 
--- The answer r to a question put to s that comes to the outcome o.
-abbrev pub AskedAs : Session → ℕ → Outcome → Answered → Type 0
-AskedAs s g o r = VerdictIs g o r × Leaves s o (r .session)
+-- The answer r to a question that author a puts to s and that comes to the outcome o.
+abbrev pub AskedAs : Session → ℕ → ℕ → Outcome → Answered → Type 0
+AskedAs s a g o r = VerdictIs g o r × Leaves s a o (r .session)
 
 -- What a question meets: "5 before all else", then the answer of the book.
-abbrev pub outcome : Session → ℕ → Outcome
-outcome s g = cond (inRange s) (answer (book s) g) (refused 5)
+abbrev pub outcome : Session → ℕ → ℕ → Outcome
+outcome s a g = cond (inRange s) (answerTo (book s) a g) (refused 5)
 
 -- The contract of a question.
-abbrev pub Asked : Session → ℕ → Answered → Type 0
-Asked s g = AskedAs s g (outcome s g)
+abbrev pub Asked : Session → ℕ → ℕ → Answered → Type 0
+Asked s a g = AskedAs s a g (outcome s a g)
+
+-- ---- the mean
+
+-- "21 for a mean without verdicts, after 20": W is the work of the authors.
+abbrev pub meanRefusal : List Work → ℕ → ℕ
+meanRefusal W a = authorNumber a (cond (eqb (workAt W a .verdicts) 0) 21 0)
+
+abbrev pub meanNumber : Session → ℕ → ℕ
+meanNumber s a = number s (meanRefusal (worksOf (s .authors)) a)
+
+-- "For an author the mean is given as whole questions per verdict and the exact remainder."
+abbrev pub meanOf : Work → PerVerdict
+meanOf w = per-verdict.Questions (w .questions / w .verdicts) (w .questions % w .verdicts)
+
+-- The contract of a mean: what is told where this number is met.
+abbrev pub meanBy : ℕ → List Work → ℕ → PerVerdict
+meanBy number W a = cond (eqb number 0) (meanOf (workAt W a)) (per-verdict.Refused number)
+
+abbrev pub meanTold : Session → ℕ → PerVerdict
+meanTold s a = meanBy (meanNumber s a) (worksOf (s .authors)) a

@@ -7,10 +7,12 @@ use Rattle.atoms.specs.declared.AtomSet.{AtomSet}
 use Rattle.ipl.specs.Search.{Outcome, valid, refuted, refused, unfinished}
 use Rattle.ipl.specs.Page.{Entry, searched, refutedBy}
 use Rattle.ipl.specs.Book as B
-use Rattle.ipl.specs.Book.{Book, Call, openRefusal, opened, refusal, answer, entries, next}
+use Rattle.ipl.specs.Book.{Book, Call, openRefusal, opened, refusal, answerTo, entries, next}
+use Rattle.ipl.specs.Work.{decidedOn}
 use Rattle.ipl.specs.Demand.{Claim}
 use Rattle.prover.specs.State.{worldsOf, book}
-use Rattle.prover.specs.Calls.{flatOf, Opened, FlatAdded, ImplicationAdded, MarkSet, MarkReturned, totalAfter, VerdictIs, Asked}
+use Rattle.prover.specs.Calls.{flatOf, Opened, FlatAdded, ImplicationAdded, MarkSet, MarkReturned, VerdictIs, Asked}
+use Rattle.prover.specs.Work.{worksOf, withAll}
 use Rattle.prover.specs.Page.{goalsOf, withAnswer, PageAnswered}
 use Rattle.prover.specs.declared.Held.{Held}
 use Rattle.prover.specs.declared.Held.the-variants as held
@@ -20,23 +22,23 @@ use Rattle.prover.specs.declared.Session.{Session}
 use Rattle.prover.specs.declared.Changed.{Changed}
 use Rattle.prover.specs.declared.Answered.{Answered}
 
--- A call as a program makes it, with any numbers.
+-- A call as a program makes it, with any numbers, any author's among them.
 pub data Made : Type 0 where
   addFlat : AtomSet → AtomSet → Made
   addImplication : ℕ → ℕ → ℕ → Made
-  question : ℕ → Made
+  question : ℕ → ℕ → Made
   setMark : ℕ → Made
   returnTo : ℕ → Made
-  page : List GoalRecord → Made
+  page : ℕ → List GoalRecord → Made
 
 -- The call that the book is fed.
 abbrev pub callOf : Made → Call
 callOf (addFlat left right) = B.add (B.addFlat (flatOf left right))
 callOf (addImplication a b c) = B.add (B.addImplication (record { a = a; b = b; c = c }))
-callOf (question g) = B.question g
+callOf (question a g) = B.question a g
 callOf (setMark j) = B.setMark j
 callOf (returnTo j) = B.returnTo j
-callOf (page xs) = B.page (goalsOf xs)
+callOf (page a xs) = B.page a (goalsOf xs)
 
 -- A page returns, and leaves in the records lent.
 pub record PageReturned : Type 0 where
@@ -47,32 +49,37 @@ pub record PageReturned : Type 0 where
 abbrev pub Returned : Made → Type 0
 Returned (addFlat left right) = Changed
 Returned (addImplication a b c) = Changed
-Returned (question g) = Answered
+Returned (question a g) = Answered
 Returned (setMark j) = Changed
 Returned (returnTo j) = Changed
-Returned (page xs) = PageReturned
+Returned (page a xs) = PageReturned
 
 abbrev pub sessionOf : (c : Made) → Returned c → Session
 sessionOf (addFlat left right) r = r .session
 sessionOf (addImplication a b c) r = r .session
-sessionOf (question g) r = r .session
+sessionOf (question a g) r = r .session
 sessionOf (setMark j) r = r .session
 sessionOf (returnTo j) r = r .session
-sessionOf (page xs) r = r .changed .session
+sessionOf (page a xs) r = r .changed .session
 
 -- Its contract.
 abbrev pub Meets : Session → (c : Made) → Returned c → Type 0
 Meets s (addFlat left right) r = FlatAdded s left right r
 Meets s (addImplication a b c) r = ImplicationAdded s a b c r
-Meets s (question g) r = Asked s g r
+Meets s (question a g) r = Asked s a g r
 Meets s (setMark j) r = MarkSet s j r
 Meets s (returnTo j) r = MarkReturned s j r
-Meets s (page xs) r = PageAnswered s xs (r .records) (r .changed)
+Meets s (page a xs) r = PageAnswered s a xs (r .records) (r .changed)
 
 -- A run of calls: each "on the session that the last one returned", and meeting its contract.
 abbrev pub Run : Session → List Made → Type 0
 Run s [] = Unit {0}
 Run s (c ∷ cs) = (r : Returned c) × Meets s c r × Run (sessionOf c r) cs
+
+-- The session that a run ends with.
+abbrev pub endOf : (s : Session) (cs : List Made) → Run s cs → Session
+endOf s [] run = s
+endOf s (c ∷ cs) run = endOf (sessionOf c (run .0)) cs (run .2)
 
 -- ---- a page's answer
 
@@ -104,28 +111,15 @@ heldAfter h [] es = h
 heldAfter h (g ∷ gs) [] = h
 heldAfter h (g ∷ gs) (e ∷ es) = heldAfter (heldBy h g e) gs es
 
--- The total grows by the questions of the goals searched to a verdict.
-abbrev pub questionsAfter : ℕ → Outcome → ℕ
-questionsAfter total (valid end) = totalAfter total (end .questions)
-questionsAfter total (refuted end) = totalAfter total (end .questions)
-questionsAfter total (refused number) = total
-questionsAfter total unfinished = total
-
-abbrev pub questionsBy : ℕ → Entry → ℕ
-questionsBy total (searched o) = questionsAfter total o
-questionsBy total (refutedBy j) = total
-
-abbrev pub pageTotal : ℕ → List Entry → ℕ
-pageTotal total [] = total
-pageTotal total (e ∷ es) = pageTotal (questionsBy total e) es
-
--- Of a page put to s: the number of the book's refusal, and the records as they were; or the book's entries, and what is held then.
-pub record PageIs (k : Book) (s : Session) (xs : List GoalRecord) (r : PageReturned) : Type 0 where
-  pub number : r .changed .refusal ≡ refusal k (B.page (goalsOf xs))
-  pub unchanged : (refusal k (B.page (goalsOf xs)) ≡ 0 → ⊥) → r .records ≡ xs
-  pub records : refusal k (B.page (goalsOf xs)) ≡ 0 → RecordsAre (entries k (goalsOf xs)) xs (r .records)
-  pub held : refusal k (B.page (goalsOf xs)) ≡ 0 → r .changed .session .held ≡ heldAfter (s .held) (goalsOf xs) (entries k (goalsOf xs))
-  pub total : refusal k (B.page (goalsOf xs)) ≡ 0 → r .changed .session .total ≡ pageTotal (s .total) (entries k (goalsOf xs))
+-- Of a page that author a put to s: the number of the book's refusal, and the records as they were; or the book's entries, and what is
+-- held and counted then.
+pub record PageIs (k : Book) (s : Session) (a : ℕ) (xs : List GoalRecord) (r : PageReturned) : Type 0 where
+  pub number : r .changed .refusal ≡ refusal k (B.page a (goalsOf xs))
+  pub unchanged : (refusal k (B.page a (goalsOf xs)) ≡ 0 → ⊥) → r .records ≡ xs
+  pub records : refusal k (B.page a (goalsOf xs)) ≡ 0 → RecordsAre (entries k (goalsOf xs)) xs (r .records)
+  pub held : refusal k (B.page a (goalsOf xs)) ≡ 0 → r .changed .session .held ≡ heldAfter (s .held) (goalsOf xs) (entries k (goalsOf xs))
+  pub work : refusal k (B.page a (goalsOf xs)) ≡ 0
+      → worksOf (r .changed .session .authors) ≡ withAll (worksOf (s .authors)) (decidedOn a (entries k (goalsOf xs)))
 
 -- ---- every run
 
@@ -133,10 +127,10 @@ pub record PageIs (k : Book) (s : Session) (xs : List GoalRecord) (r : PageRetur
 abbrev pub AnswerIs : Book → Session → (c : Made) → Returned c → Type 0
 AnswerIs k s (addFlat left right) r = r .refusal ≡ refusal k (callOf (addFlat left right))
 AnswerIs k s (addImplication a b c) r = r .refusal ≡ refusal k (callOf (addImplication a b c))
-AnswerIs k s (question g) r = VerdictIs g (answer k g) r
+AnswerIs k s (question a g) r = VerdictIs g (answerTo k a g) r
 AnswerIs k s (setMark j) r = r .refusal ≡ refusal k (callOf (setMark j))
 AnswerIs k s (returnTo j) r = r .refusal ≡ refusal k (callOf (returnTo j))
-AnswerIs k s (page xs) r = PageIs k s xs r
+AnswerIs k s (page a xs) r = PageIs k s a xs r
 
 -- A run follows the book k: what the session holds is k; each answer is that of k, and all that is claimed of it holds;
 -- and so on from the book that the call leaves.

@@ -9,9 +9,11 @@ use lib.ListN.{getD, take, drop}
 use Rattle.atoms.specs.Words.{rowOf}
 use Rattle.ipl.specs.Lists.{tabulate}
 use Rattle.ipl.specs.Page.{goalTable, Found, earliest}
+use Rattle.ipl.specs.Authors.{authorNumber}
 use Rattle.ipl.specs.Book.{pageRefusal}
 use Rattle.prover.specs.State.{book}
-use Rattle.prover.specs.Calls.{number, Asked}
+use Rattle.prover.specs.Work.{worksOf, withDecided}
+use Rattle.prover.specs.Calls.{number, VerdictKept, Asked}
 use Rattle.prover.specs.declared.Worlds.{Worlds}
 use Rattle.prover.specs.declared.Verdict.{Verdict}
 use Rattle.prover.specs.declared.Verdict.the-variants as verdict
@@ -32,13 +34,13 @@ use Rattle.prover.specs.declared.paging.Model.the-variants as model
 abbrev pub goalsOf : List GoalRecord → List ℕ
 goalsOf xs = map (λ (x : GoalRecord). x .goal) xs
 
--- 5, then 19 for so many goals.
-abbrev pub listNumber : Session → ℕ → ℕ
-listNumber s count = number s (cond (leb count goalTable) 0 19)
+-- 5, then 20 for author a, then 19 for so many goals.
+abbrev pub listNumber : Session → ℕ → ℕ → ℕ
+listNumber s a count = number s (authorNumber a (cond (leb count goalTable) 0 19))
 
--- 5, or the number that the book has for the goals.
-abbrev pub pageNumber : Session → List ℕ → ℕ
-pageNumber s gs = number s (pageRefusal (book s) gs)
+-- 5, or the number that the book has for author a and the goals.
+abbrev pub pageNumber : Session → ℕ → List ℕ → ℕ
+pageNumber s a gs = number s (pageRefusal (book s) a gs)
 
 -- ---- records
 
@@ -77,34 +79,39 @@ modelFound model.None = none
 
 -- ---- the contract
 
--- The goal of x, put to s, makes of its record y and of the session t: refuted by the model of the goal at place j, or a question.
-abbrev pub GoalBy : Option ℕ → Session → GoalRecord → GoalRecord → Session → Type 0
-GoalBy (some j) s x y t = (y ≡ withAnswer x (goal.RefutedBy j)) × (t ≡ s)
-GoalBy none s x y t = (r : Answered) × Asked s (x .goal) r × (y ≡ recordAfter x (r .verdict) (r .session .worlds)) × (t ≡ r .session)
+-- "A goal answered in a page without a search counts as a verdict of no questions": the session t is otherwise what s was.
+abbrev pub Counted : Session → ℕ → Session → Type 0
+Counted s a t = (book t ≡ book s) × VerdictKept (withDecided (worksOf (s .authors)) (record { author = a; questions = 0 })) s t
+
+-- The goal of x, put to s by author a, makes of its record y and of the session t: refuted by the model of the goal at place j, or a
+-- question.
+abbrev pub GoalBy : Option ℕ → Session → ℕ → GoalRecord → GoalRecord → Session → Type 0
+GoalBy (some j) s a x y t = (y ≡ withAnswer x (goal.RefutedBy j)) × Counted s a t
+GoalBy none s a x y t = (r : Answered) × Asked s a (x .goal) r × (y ≡ recordAfter x (r .verdict) (r .session .worlds)) × (t ≡ r .session)
 
 -- Where these models were found before it.
-abbrev pub GoalDone : Session → List Found → GoalRecord → GoalRecord → Session → Type 0
-GoalDone s M x y t = GoalBy (earliest (x .goal) M) s x y t
+abbrev pub GoalDone : Session → ℕ → List Found → GoalRecord → GoalRecord → Session → Type 0
+GoalDone s a M x y t = GoalBy (earliest (x .goal) M) s a x y t
 
 -- "Goals are taken in order": the records from the place i on become these, and the session becomes t.
-abbrev pub GoalsDone : Session → List Found → ℕ → List GoalRecord → List GoalRecord → Session → Type 0
-GoalsDone s M i [] [] t = t ≡ s
-GoalsDone s M i [] (y ∷ ys) t = ⊥
-GoalsDone s M i (x ∷ xs) [] t = ⊥
-GoalsDone s M i (x ∷ xs) (y ∷ ys) t = (u : Session) × GoalDone s M x y u × GoalsDone u (M ++ foundIn i y) (suc i) xs ys t
+abbrev pub GoalsDone : Session → ℕ → List Found → ℕ → List GoalRecord → List GoalRecord → Session → Type 0
+GoalsDone s a M i [] [] t = t ≡ s
+GoalsDone s a M i [] (y ∷ ys) t = ⊥
+GoalsDone s a M i (x ∷ xs) [] t = ⊥
+GoalsDone s a M i (x ∷ xs) (y ∷ ys) t = (u : Session) × GoalDone s a M x y u × GoalsDone u a (M ++ foundIn i y) (suc i) xs ys t
 
--- The contract of a page: xs are the lent records before it, ys what they hold next.
-pub record PageAnswered (s : Session) (xs ys : List GoalRecord) (r : Changed) : Type 0 where
-  pub refused : r .refusal ≡ pageNumber s (goalsOf xs)
-  pub unchanged : (pageNumber s (goalsOf xs) ≡ 0 → ⊥) → (r .session ≡ s) × (ys ≡ xs)
-  pub done : pageNumber s (goalsOf xs) ≡ 0 → GoalsDone s [] 0 xs ys (r .session)
+-- The contract of a page of author a: xs are the lent records before it, ys what they hold next.
+pub record PageAnswered (s : Session) (a : ℕ) (xs ys : List GoalRecord) (r : Changed) : Type 0 where
+  pub refused : r .refusal ≡ pageNumber s a (goalsOf xs)
+  pub unchanged : (pageNumber s a (goalsOf xs) ≡ 0 → ⊥) → (r .session ≡ s) × (ys ≡ xs)
+  pub done : pageNumber s a (goalsOf xs) ≡ 0 → GoalsDone s a [] 0 xs ys (r .session)
 
 -- The records that are lent by value.
 abbrev pub recordsOf : Records → List GoalRecord
 recordsOf t = take (t .count) (t .rows)
 
 -- The contract of a page of them; rows past the count stay as they were.
-pub record PagedAs (s : Session) (records : Records) (r : Paged) : Type 0 where
+pub record PagedAs (s : Session) (a : ℕ) (records : Records) (r : Paged) : Type 0 where
   pub same-count : r .records .count ≡ records .count
   pub past : drop (records .count) (r .records .rows) ≡ drop (records .count) (records .rows)
-  pub answered : PageAnswered s (recordsOf records) (recordsOf (r .records)) (r .changed)
+  pub answered : PageAnswered s a (recordsOf records) (recordsOf (r .records)) (r .changed)

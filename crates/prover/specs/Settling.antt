@@ -1,4 +1,5 @@
 -- A question from the session's rows to its answer.
+use mathlib.Core.Bool.{true}
 use mathlib.Core.List.{List}
 use mathlib.Core.Path.{_≡_}
 use Prim.Native.Nat.{ℕ, _+_}
@@ -7,7 +8,8 @@ use Rattle.atoms.specs.Words.{rowCount}
 use Rattle.ipl.specs.Range.{flatTable, stepTable, worldTable}
 use Rattle.ipl.specs.Search.{State, Outcome, search}
 use Rattle.prover.specs.State.{flatsOf, implicationsOf, stepsOf}
-use Rattle.prover.specs.Calls.{goalNumber, Given, Searched}
+use Rattle.prover.specs.InRange.{inRange}
+use Rattle.prover.specs.Calls.{Given, Searched}
 use Rattle.prover.specs.Search.{Tables, tables, Ended}
 use Rattle.prover.specs.declared.Held.{Held}
 use Rattle.prover.specs.declared.Verdict.{Verdict}
@@ -21,9 +23,9 @@ use Rattle.prover.specs.declared.question.End.{End}
 abbrev pub whole : Session → ℕ → Outcome
 whole s g = search (s .n) (flatsOf (s .flats)) (implicationsOf (s .implications)) g (stepsOf (s .steps))
 
--- Tables of the right sizes, with the session's steps, and a goal that is not refused.
-pub record Prepared (s : Session) (g : ℕ) (t : Tables) : Type 0 where
-  pub unrefused : goalNumber s g ≡ 0
+-- Tables of the right sizes, with the steps of a session in range.
+pub record Prepared (s : Session) (t : Tables) : Type 0 where
+  pub in-range : inRange s ≡ true
   pub left-rows : rowCount (t .left) ≡ flatTable + stepTable
   pub right-rows : rowCount (t .right) ≡ flatTable + stepTable
   pub numbers-size : length (t .numbers) ≡ stepTable
@@ -32,9 +34,9 @@ pub record Prepared (s : Session) (g : ℕ) (t : Tables) : Type 0 where
   pub numbers : t .numbers ≡ s .steps .numbers
   pub assumed : t .assumed ≡ s .steps .assumed
 
--- The answer r with the verdict v, held as h, after s and a search that ended there.
-abbrev pub Concluded : Session → State → Verdict → Held → Answered → Type 0
-Concluded s end v h r = Given v h end r × Searched s end (r .session)
+-- The answer r to author a, with the verdict v, held as h, after s and a search that ended there.
+abbrev pub Concluded : Session → ℕ → State → Verdict → Held → Answered → Type 0
+Concluded s a end v h r = Given v h end r × Searched s a end (r .session)
 
 -- The search ended in tables that have these steps and worlds.
 pub record Concluding (s : Session) (g : ℕ) (steps : Steps) (worlds : Worlds) (end : End) : Type 0 where

@@ -1,4 +1,5 @@
 // A session with one clause more, and the empty session. An addition drops the verdict held.
+use super::Authors;
 use super::Flats;
 use super::Held;
 use super::Implications;
@@ -6,6 +7,7 @@ use super::Mark;
 use super::Marks;
 use super::Session;
 use super::Steps;
+use super::Work;
 use super::Worlds;
 use atoms::AtomSet;
 ghost use mathlib.Core.Path.{_≡_};
@@ -16,10 +18,11 @@ ghost use Rattle.ipl.specs.Range.{flatTable, implicationTable};
 ghost use Rattle.ipl.specs.Book.{addFlat, addImplication, add, taken};
 ghost use Rattle.prover.specs.State.{flatsOf, implicationsOf, bookOf, book};
 ghost use Rattle.prover.specs.Calls.{flatOf, flatNumber, implicationNumber, NothingHeld, ClosingFits};
+ghost use Rattle.prover.specs.Work.{noneDone, worksOf};
 
 // The empty session of n atoms.
 pub fn empty(n: u8) -> Session
-    ensures { λ r. ⌜ (book r ≡ record { n = n; flats = []; implications = []; steps = []; marks = [] }) × NothingHeld 0 r ⌝ }
+    ensures { λ r. ⌜ (book r ≡ record { n = n; flats = []; implications = []; steps = []; marks = [] }) × NothingHeld noneDone r ⌝ }
 {
     let flats = Flats {
         count: 0,
@@ -51,15 +54,22 @@ pub fn empty(n: u8) -> Session
         count: 0,
         rows: [unused; ipl::MARKS + 1],
     };
+    let idle = Work {
+        questions: 0,
+        verdicts: 0,
+    };
+    let authors = Authors {
+        rows: [idle; ipl::AUTHORS],
+    };
     Session {
         n,
         flats,
         implications,
         steps,
         worlds,
-        total: 0,
         held: Held::Nothing,
         marks,
+        authors,
     }
 }
 
@@ -107,29 +117,30 @@ fn with_closing(t: Flats, b: u8, c: u8) -> Flats
 
 // The session with other clauses, and no verdict.
 pub fn with_clauses(s: Session, flats: Flats, implications: Implications) -> Session
-    ensures { λ r. ⌜ (book r ≡ bookOf (s .n) flats implications (s .steps) (s .marks)) × NothingHeld (s .total) r ⌝ }
+    ensures { λ r. ⌜ (book r ≡ bookOf (s .n) flats implications (s .steps) (s .marks)) × NothingHeld (worksOf (s .authors)) r ⌝ }
 {
     let mut worlds = s.worlds;
     worlds.count = 0;
     let steps = s.steps;
     let held = Held::Nothing;
     let marks = s.marks;
+    let authors = s.authors;
     Session {
         n: s.n,
         flats,
         implications,
         steps,
         worlds,
-        total: s.total,
         held,
         marks,
+        authors,
     }
 }
 
 // One flat clause more. The caller has seen that it is not refused.
 pub fn with_flat(s: Session, left: AtomSet, right: AtomSet) -> Session
     requires { ⌜ flatNumber s (flatOf left right) ≡ 0 ⌝ }
-    ensures { λ r. ⌜ (book r ≡ taken (book s) (add (addFlat (flatOf left right)))) × NothingHeld (s .total) r ⌝ }
+    ensures { λ r. ⌜ (book r ≡ taken (book s) (add (addFlat (flatOf left right)))) × NothingHeld (worksOf (s .authors)) r ⌝ }
 {
     let flats = with_flat_row(s.flats, left, right);
     let implications = s.implications;
@@ -139,7 +150,7 @@ pub fn with_flat(s: Session, left: AtomSet, right: AtomSet) -> Session
 // One implication more, with its closing clause. The caller has seen that it is not refused.
 pub fn with_implication(s: Session, a: u8, b: u8, c: u8) -> Session
     requires { ⌜ implicationNumber s (record { a = a; b = b; c = c }) ≡ 0 ⌝ }
-    ensures { λ r. ⌜ (book r ≡ taken (book s) (add (addImplication (record { a = a; b = b; c = c })))) × NothingHeld (s .total) r ⌝ }
+    ensures { λ r. ⌜ (book r ≡ taken (book s) (add (addImplication (record { a = a; b = b; c = c })))) × NothingHeld (worksOf (s .authors)) r ⌝ }
 {
     let flats = with_closing(s.flats, b, c);
     let implications = with_implication_row(s.implications, a, b, c);

@@ -1,11 +1,13 @@
-// A session: it holds clauses, decides whether they force a goal, keeps what it learned, and comes back to marks.
+// A session: it holds clauses, decides whether they force a goal, keeps what it learned, comes back to marks, and counts for whom it worked.
 use atoms::AtomSet;
-ghost use Rattle.prover.specs.Calls.{Opened, FlatAdded, ImplicationAdded, Asked, MarkSet, MarkReturned};
+ghost use mathlib.Core.Path.{_≡_};
+ghost use Rattle.prover.specs.Calls.{Opened, FlatAdded, ImplicationAdded, Asked, MarkSet, MarkReturned, meanTold};
 ghost use Prim.Native.Nat.{_+_, _≤_};
 ghost use Rattle.ipl.specs.Page.{goalTable};
 ghost use Rattle.prover.specs.Page.{PageAnswered, PagedAs};
 
 mod additions;
+mod counting;
 mod marking;
 mod paging;
 mod question;
@@ -14,6 +16,8 @@ mod realization;
 mod settling;
 mod working;
 
+// An author's work in a session.
+pub use counting::work_of;
 // Whether a call on the session meets no refusal 5.
 pub use range::in_range;
 
@@ -56,6 +60,17 @@ pub struct Marks {
     pub rows: [Mark; ipl::MARKS + 1],
 }
 
+// The classical questions of an author's goals that were decided, and how many goals these were.
+pub struct Work {
+    pub questions: u32,
+    pub verdicts: u32,
+}
+
+// A row for each author.
+pub struct Authors {
+    pub rows: [Work; ipl::AUTHORS],
+}
+
 // The last verdict with its goal, until a clause is added or a mark returned to.
 pub enum Held {
     Nothing,
@@ -70,9 +85,9 @@ pub struct Session {
     pub implications: Implications,
     pub steps: Steps,
     pub worlds: Worlds,
-    pub total: u32,
     pub held: Held,
     pub marks: Marks,
+    pub authors: Authors,
 }
 
 // The number of a refusal, or 0; and the session that the caller goes on with.
@@ -92,6 +107,12 @@ pub enum Verdict {
 pub struct Answered {
     pub verdict: Verdict,
     pub session: Session,
+}
+
+// Whole questions per verdict, and the remainder; or refused, with a number.
+pub enum PerVerdict {
+    Questions(u32, u32),
+    Refused(u8),
 }
 
 // What a page says of a goal: valid, with the count of steps held; refuted by its own search, with the count of worlds, or by the
@@ -176,13 +197,13 @@ pub fn add_implication(s: Session, a: u8, b: u8, c: u8) -> Changed
     }
 }
 
-// Do the clauses force the goal? Refused 5, 6, 11, 12: the session as given.
-pub fn ask(s: Session, goal: u8) -> Answered
-    ensures { λ r. ⌜ Asked s goal r ⌝ }
+// Do the clauses force the goal? An author asks. Refused 5, 20, 6, 11, 12: the session as given.
+pub fn ask(s: Session, author: u8, goal: u8) -> Answered
+    ensures { λ r. ⌜ Asked s author goal r ⌝ }
 {
-    let refusal = range::goal_refusal(s, goal);
+    let refusal = range::question_refusal(s, author, goal);
     if refusal == 0 {
-        settling::settle(s, goal)
+        settling::settle(s, author, goal)
     } else {
         Answered {
             verdict: Verdict::Refused(refusal, 0),
@@ -227,12 +248,25 @@ pub fn return_to(s: Session, mark: u8) -> Changed
     }
 }
 
-// Puts a page of goals, in order: a goal that the root of an earlier model of this page lacks is refuted by the earliest such model,
-// another is a question. Refused 5, 19, 6: the session as given and the records as they were.
-pub fn page(records: &mut [GoalRecord], s: Session) -> Changed
-    ensures { λ r. ⌜ PageAnswered s (now (records .entry)) (now (records .exit)) r ⌝ }
+// How many questions an author's verdicts took, in the mean. Refused 5, 20, 21.
+pub fn mean(s: Session, author: u8) -> PerVerdict
+    ensures { λ r. ⌜ r ≡ meanTold s author ⌝ }
 {
-    let mut p = paging::begin(s, records.len());
+    let refusal = range::mean_refusal(s, author);
+    if refusal == 0 {
+        let authors = s.authors;
+        counting::mean_of(counting::work_of(authors, author))
+    } else {
+        PerVerdict::Refused(refusal)
+    }
+}
+
+// An author puts a page of goals, in order: a goal that the root of an earlier model of this page lacks is refuted by the earliest such
+// model, another is a question. Refused 5, 20, 19, 6: the session as given and the records as they were.
+pub fn page(records: &mut [GoalRecord], s: Session, author: u8) -> Changed
+    ensures { λ r. ⌜ PageAnswered s author (now (records .entry)) (now (records .exit)) r ⌝ }
+{
+    let mut p = paging::begin(s, author, records.len());
     while p.at < p.count {
         let i = p.at;
         let t = paging::take(p, records[i]);
@@ -243,12 +277,12 @@ pub fn page(records: &mut [GoalRecord], s: Session) -> Changed
 }
 
 // Lends the first records to a page. The caller has seen that there are so many.
-fn lend(records: Records, s: Session) -> Paged
+fn lend(records: Records, s: Session, author: u8) -> Paged
     requires { ⌜ records .count ≤ goalTable + 1 ⌝ }
-    ensures { λ r. ⌜ PagedAs s records r ⌝ }
+    ensures { λ r. ⌜ PagedAs s author records r ⌝ }
 {
     let mut rows = records.rows;
-    let changed = page(&mut rows[..records.count], s);
+    let changed = page(&mut rows[..records.count], s, author);
     Paged {
         changed,
         records: Records {
@@ -259,15 +293,15 @@ fn lend(records: Records, s: Session) -> Paged
 }
 
 // A page of records by value, for callers that lend none. A count above that of the rows is one of too many.
-pub fn page_of(records: Records, s: Session) -> Paged
-    ensures { λ r. ⌜ PagedAs s records r ⌝ }
+pub fn page_of(records: Records, s: Session, author: u8) -> Paged
+    ensures { λ r. ⌜ PagedAs s author records r ⌝ }
 {
     if records.count <= ipl::GOALS + 1 {
-        return lend(records, s);
+        return lend(records, s, author);
     }
     Paged {
         changed: Changed {
-            refusal: range::list_refusal(s, records.count),
+            refusal: range::list_refusal(s, author, records.count),
             session: s,
         },
         records,

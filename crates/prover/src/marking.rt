@@ -11,6 +11,7 @@ ghost use Rattle.ipl.specs.Marks.{markTable, others, setLast, placeOf};
 ghost use Rattle.ipl.specs.Book.{setMark, returnTo, taken};
 ghost use Rattle.prover.specs.State.{markOf, marksOf, book};
 ghost use Rattle.prover.specs.Calls.{markNumber, returnNumber, NothingHeld, VerdictKept};
+ghost use Rattle.prover.specs.Work.{worksOf};
 
 // The place of a mark's row; the number of rows where it has none.
 pub fn place_of(t: Marks, number: u8) -> usize
@@ -67,28 +68,29 @@ fn set_last(t: Marks, mark: Mark) -> Marks
 
 // The session with other steps and marks.
 fn with_marks(s: Session, steps: Steps, marks: Marks) -> Session
-    ensures { λ r. ⌜ r ≡ record { n = s .n; flats = s .flats; implications = s .implications; steps = steps; worlds = s .worlds; total = s .total; held = s .held; marks = marks } ⌝ }
+    ensures { λ r. ⌜ r ≡ record { n = s .n; flats = s .flats; implications = s .implications; steps = steps; worlds = s .worlds; held = s .held; marks = marks; authors = s .authors } ⌝ }
 {
     let flats = s.flats;
     let implications = s.implications;
     let worlds = s.worlds;
     let held = s.held;
+    let authors = s.authors;
     Session {
         n: s.n,
         flats,
         implications,
         steps,
         worlds,
-        total: s.total,
         held,
         marks,
+        authors,
     }
 }
 
 // A mark set now. The caller has seen that it is not refused.
 pub fn with_mark(s: Session, number: u8) -> Session
     requires { ⌜ markNumber s number ≡ 0 ⌝ }
-    ensures { λ r. ⌜ (book r ≡ taken (book s) (setMark number)) × VerdictKept s r ⌝ }
+    ensures { λ r. ⌜ (book r ≡ taken (book s) (setMark number)) × VerdictKept (worksOf (s .authors)) s r ⌝ }
 {
     let flats = s.flats;
     let implications = s.implications;
@@ -106,7 +108,7 @@ pub fn with_mark(s: Session, number: u8) -> Session
 // What a mark remembers, and no verdict. The caller has seen that it is not refused.
 pub fn returned(s: Session, number: u8) -> Session
     requires { ⌜ returnNumber s number ≡ 0 ⌝ }
-    ensures { λ r. ⌜ (book r ≡ taken (book s) (returnTo number)) × NothingHeld (s .total) r ⌝ }
+    ensures { λ r. ⌜ (book r ≡ taken (book s) (returnTo number)) × NothingHeld (worksOf (s .authors)) r ⌝ }
 {
     let mut flats = s.flats;
     let mut implications = s.implications;

@@ -5,6 +5,7 @@ use super::GoalRecord;
 use super::Session;
 use super::Verdict;
 use super::Worlds;
+use super::counting;
 use super::range;
 use atoms::AtomSet;
 ghost use mathlib.Core.List.{[], _∷_, _++_};
@@ -13,8 +14,9 @@ ghost use mathlib.Core.Path.{_≡_};
 ghost use Prim.Native.Nat.{_+_, _≤_, _<_};
 ghost use Rattle.atoms.specs.Words.{num};
 ghost use Rattle.ipl.specs.Page.{goalTable, earliest};
-ghost use Rattle.prover.specs.Page.{modelsOf, modelFound, withAnswer, recordAfter, foundIn};
-ghost use Rattle.prover.specs.Paging.{wentOn, judged, PageBegun, RecordAnswered, RecordTaken};
+ghost use Rattle.ipl.specs.Authors.{authorTable};
+ghost use Rattle.prover.specs.Page.{modelsOf, modelFound, withAnswer, recordAfter, foundIn, Counted};
+ghost use Rattle.prover.specs.Paging.{wentOn, judged, PageBegun, Ready, RecordAnswered, RecordTaken};
 
 // The models that searches of this page found, in order: the place of the goal, and the root.
 pub struct Models {
@@ -31,6 +33,7 @@ pub struct Page {
     pub count: usize,
     pub at: usize,
     pub judged: bool,
+    pub author: u8,
 }
 
 // The page after a record was taken, and what the record then is.
@@ -45,11 +48,11 @@ enum Model {
     None,
 }
 
-// A page of so many records. Refused 5, 19.
-pub fn begin(s: Session, count: usize) -> Page
-    ensures { λ p. ⌜ PageBegun s count p ⌝ }
+// A page of so many records. Refused 5, 20, 19.
+pub fn begin(s: Session, author: u8, count: usize) -> Page
+    ensures { λ p. ⌜ PageBegun s author count p ⌝ }
 {
-    let refusal = range::list_refusal(s, count);
+    let refusal = range::list_refusal(s, author, count);
     let models = Models {
         count: 0,
         places: [0; ipl::GOALS],
@@ -62,6 +65,7 @@ pub fn begin(s: Session, count: usize) -> Page
         count: if refusal == 0 { count } else { 0 },
         at: 0,
         judged: false,
+        author,
     }
 }
 
@@ -167,15 +171,28 @@ fn went_on(p: Page, session: Session, models: Models) -> Page
         count: p.count,
         at: p.at + 1,
         judged: p.judged,
+        author: p.author,
     }
+}
+
+// The session with a verdict more of the author, without a search.
+fn counted(s: Session, author: u8) -> Session
+    requires { ⌜ author < authorTable ⌝ }
+    ensures { λ r. ⌜ Counted s author r ⌝ }
+{
+    let before = s.authors;
+    let authors = counting::with_decided(before, author, 0);
+    let mut next = s;
+    next.authors = authors;
+    next
 }
 
 // The goal is put as a question.
 fn searched(p: Page, r: GoalRecord) -> Taken
-    requires { ⌜ (p .at < p .count) × (p .models .count < goalTable) × (earliest (r .goal) (modelsOf (p .models)) ≡ none) ⌝ }
+    requires { ⌜ Ready p × (earliest (r .goal) (modelsOf (p .models)) ≡ none) ⌝ }
     ensures { λ t. ⌜ RecordAnswered p r t ⌝ }
 {
-    let answered = super::ask(p.session, r.goal);
+    let answered = super::ask(p.session, p.author, r.goal);
     let session = answered.session;
     let verdict = answered.verdict;
     let worlds = session.worlds;
@@ -188,12 +205,12 @@ fn searched(p: Page, r: GoalRecord) -> Taken
 
 // Answers a goal: refuted by the earliest model that lacks it, or searched.
 fn answer(p: Page, r: GoalRecord) -> Taken
-    requires { ⌜ (p .at < p .count) × (p .models .count < goalTable) ⌝ }
+    requires { ⌜ Ready p ⌝ }
     ensures { λ t. ⌜ RecordAnswered p r t ⌝ }
 {
     match earliest(p.models, r.goal) {
         Model::Of(place) => Taken {
-            page: went_on(p, p.session, p.models),
+            page: went_on(p, counted(p.session, p.author), p.models),
             rec: with_answer(r, GoalAnswer::RefutedBy(place)),
         },
         Model::None => searched(p, r),
@@ -202,7 +219,7 @@ fn answer(p: Page, r: GoalRecord) -> Taken
 
 // Takes the record at the page's place.
 pub fn take(p: Page, r: GoalRecord) -> Taken
-    requires { ⌜ (p .at < p .count) × (p .models .count < goalTable) ⌝ }
+    requires { ⌜ Ready p ⌝ }
     ensures { λ t. ⌜ RecordTaken p r t ⌝ }
 {
     if p.judged {

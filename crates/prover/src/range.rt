@@ -1,4 +1,4 @@
-// What refusals 5 to 8 and 17 to 19 judge.
+// What refusals 5 to 8 and 17 to 21 judge.
 use super::Flats;
 use super::Held;
 use super::Implications;
@@ -7,6 +7,7 @@ use super::Marks;
 use super::Session;
 use super::Steps;
 use super::Worlds;
+use super::counting;
 use super::marking;
 use atoms::AtomSet;
 ghost use mathlib.Core.Path.{_≡_};
@@ -15,7 +16,7 @@ ghost use lib.Dec.{leb, eqb};
 ghost use Rattle.ipl.specs.Clause.{bot};
 ghost use Rattle.ipl.specs.Range.{flatTable};
 ghost use Rattle.prover.specs.State.{markOf};
-ghost use Rattle.prover.specs.Calls.{flatOf, flatNumber, implicationNumber, goalNumber, markNumber, returnNumber};
+ghost use Rattle.prover.specs.Calls.{flatOf, flatNumber, implicationNumber, questionNumber, meanNumber, markNumber, returnNumber};
 ghost use Rattle.prover.specs.Page.{listNumber};
 ghost use Rattle.prover.specs.InRange.{flatsInRange, implicationsInRange, stepsInRange, worldsInRange, heldInRange, markInRange, marksInRange, inRange};
 
@@ -201,14 +202,35 @@ pub fn implication_refusal(s: Session, a: u8, b: u8, c: u8) -> u8
     0
 }
 
-// The number of the refusal that a goal meets before the search, or 0.
-pub fn goal_refusal(s: Session, goal: u8) -> u8
-    ensures { λ r. ⌜ r ≡ goalNumber s goal ⌝ }
+// The number of the refusal that a question meets before the search, or 0.
+pub fn question_refusal(s: Session, author: u8, goal: u8) -> u8
+    ensures { λ r. ⌜ r ≡ questionNumber s author goal ⌝ }
 {
     if !in_range(s) {
         return 5;
     }
+    if ipl::AUTHORS <= author as usize {
+        return 20;
+    }
     if ipl::atom_or_bottom(s.n, goal) { 0 } else { 6 }
+}
+
+// The number of the refusal that an author's mean meets, or 0.
+pub fn mean_refusal(s: Session, author: u8) -> u8
+    ensures { λ r. ⌜ r ≡ meanNumber s author ⌝ }
+{
+    if !in_range(s) {
+        return 5;
+    }
+    if ipl::AUTHORS <= author as usize {
+        return 20;
+    }
+    let authors = s.authors;
+    if counting::work_of(authors, author).verdicts == 0 {
+        21
+    } else {
+        0
+    }
 }
 
 // The number of the refusal that setting a mark meets, or 0.
@@ -240,11 +262,14 @@ pub fn return_refusal(s: Session, mark: u8) -> u8
 }
 
 // The number of the refusal that a page of so many goals meets before they are judged, or 0.
-pub fn list_refusal(s: Session, count: usize) -> u8
-    ensures { λ r. ⌜ r ≡ listNumber s count ⌝ }
+pub fn list_refusal(s: Session, author: u8, count: usize) -> u8
+    ensures { λ r. ⌜ r ≡ listNumber s author count ⌝ }
 {
     if !in_range(s) {
         return 5;
+    }
+    if ipl::AUTHORS <= author as usize {
+        return 20;
     }
     if count <= ipl::GOALS { 0 } else { 19 }
 }

@@ -5,58 +5,47 @@ use super::Session;
 use super::Steps;
 use super::Verdict;
 use super::Worlds;
+use super::counting;
 use super::question;
 use super::question::End;
 use super::question::Progress;
 use super::realization::Pair;
 use super::working;
 ghost use mathlib.Core.Path.{_≡_};
-ghost use Prim.Native.Nat.{_≤_};
+ghost use Prim.Native.Nat.{_≤_, _<_};
+ghost use Rattle.ipl.specs.Authors.{authorTable};
 ghost use Rattle.ipl.specs.Search.{mostTurns};
 ghost use Rattle.prover.specs.State.{stepsOf, worldsOf};
-ghost use Rattle.prover.specs.Calls.{goalNumber, totalAfter, AskedAs};
+ghost use Rattle.prover.specs.Calls.{questionNumber, AskedAs};
 ghost use Rattle.prover.specs.Search.{tables, Ended};
 ghost use Rattle.prover.specs.Settling.{whole, Prepared, Concluded, Concluding};
 
-// Where the total of questions stays.
-const MOST_TOTAL: u32 = 4294967295;
-
-fn total_after(total: u32, questions: usize) -> u32
-    requires { ⌜ questions ≤ mostTurns ⌝ }
-    ensures { λ r. ⌜ r ≡ totalAfter total questions ⌝ }
-{
-    let sum = total as usize + questions;
-    if MOST_TOTAL as usize <= sum {
-        MOST_TOTAL
-    } else {
-        sum as u32
-    }
-}
-
-// The answer with a verdict, held in the session s with these steps and worlds.
+// The answer with a verdict, held in the session s with these steps and worlds, and counted for the author.
 fn with_verdict(
     s: Session,
+    author: u8,
     verdict: Verdict,
     held: Held,
     steps: Steps,
     worlds: Worlds,
     questions: usize,
 ) -> Answered
-    requires { ⌜ questions ≤ mostTurns ⌝ }
-    ensures { λ r. ⌜ Concluded s (record { steps = stepsOf steps; worlds = worldsOf worlds; questions = questions }) verdict held r ⌝ }
+    requires { ⌜ (author < authorTable) × (questions ≤ mostTurns) ⌝ }
+    ensures { λ r. ⌜ Concluded s author (record { steps = stepsOf steps; worlds = worldsOf worlds; questions = questions }) verdict held r ⌝ }
 {
     let flats = s.flats;
     let implications = s.implications;
     let marks = s.marks;
+    let authors = s.authors;
     let session = Session {
         n: s.n,
         flats,
         implications,
         steps,
         worlds,
-        total: total_after(s.total, questions),
         held,
         marks,
+        authors: counting::with_decided(authors, author, questions),
     };
     Answered { verdict, session }
 }
@@ -71,7 +60,7 @@ fn decide(
     s: Session,
     goal: u8,
 ) -> End
-    requires { ⌜ Prepared s goal (tables (now left) (now right) (now numbers) (now assumed) (now sets)) ⌝ }
+    requires { ⌜ Prepared s (tables (now left) (now right) (now numbers) (now assumed) (now sets)) ⌝ }
     ensures { λ r. ⌜ Ended (whole s goal)
         (tables (now (left .exit)) (now (right .exit)) (now (numbers .exit)) (now (assumed .exit)) (now (sets .exit))) r ⌝ }
 {
@@ -90,9 +79,9 @@ fn decide(
 }
 
 // The answer that the end of the search gives, with the tables' steps and worlds.
-fn conclude(s: Session, goal: u8, end: End, steps: Steps, worlds: Worlds) -> Answered
-    requires { ⌜ Concluding s goal steps worlds end ⌝ }
-    ensures { λ r. ⌜ AskedAs s goal (whole s goal) r ⌝ }
+fn conclude(s: Session, author: u8, goal: u8, end: End, steps: Steps, worlds: Worlds) -> Answered
+    requires { ⌜ (author < authorTable) × Concluding s goal steps worlds end ⌝ }
+    ensures { λ r. ⌜ AskedAs s author goal (whole s goal) r ⌝ }
 {
     let mut learned = steps;
     let mut shown = worlds;
@@ -106,21 +95,37 @@ fn conclude(s: Session, goal: u8, end: End, steps: Steps, worlds: Worlds) -> Ans
             shown.count = 0;
             let verdict = Verdict::Valid(p.steps);
             let questions = p.questions + 1;
-            with_verdict(s, verdict, Held::Valid(goal), learned, shown, questions)
+            with_verdict(
+                s,
+                author,
+                verdict,
+                Held::Valid(goal),
+                learned,
+                shown,
+                questions,
+            )
         }
         End::Refuted(p) => {
             learned.count = p.steps;
             shown.count = p.worlds;
             let verdict = Verdict::Refuted(p.worlds);
-            with_verdict(s, verdict, Held::Refuted(goal), learned, shown, p.questions)
+            with_verdict(
+                s,
+                author,
+                verdict,
+                Held::Refuted(goal),
+                learned,
+                shown,
+                p.questions,
+            )
         }
     }
 }
 
 // A question that is not refused, from the session's rows to its answer.
-pub fn settle(s: Session, goal: u8) -> Answered
-    requires { ⌜ goalNumber s goal ≡ 0 ⌝ }
-    ensures { λ r. ⌜ AskedAs s goal (whole s goal) r ⌝ }
+pub fn settle(s: Session, author: u8, goal: u8) -> Answered
+    requires { ⌜ questionNumber s author goal ≡ 0 ⌝ }
+    ensures { λ r. ⌜ AskedAs s author goal (whole s goal) r ⌝ }
 {
     let steps = s.steps;
     let worlds = s.worlds;
@@ -144,5 +149,5 @@ pub fn settle(s: Session, goal: u8) -> Answered
         assumed,
     };
     let shown = Worlds { count: 0, sets };
-    conclude(s, goal, end, learned, shown)
+    conclude(s, author, goal, end, learned, shown)
 }

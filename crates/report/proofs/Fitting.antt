@@ -2,7 +2,7 @@
 use mathlib.Core.List.{List, [], _∷_, _++_}
 use mathlib.Core.Logic.{inl, inr}
 use mathlib.Core.Path.{_≡_, ap, subst}
-use Prim.Native.Nat.{ℕ, _*_, _^_, _≤_, _<_}
+use Prim.Native.Nat.{ℕ, _+_, _*_, _^_, _≤_, _<_}
 use native.Mathlib.Decide.{decLe}
 use native.Mathlib.Omega.{arith}
 use lib.Dec.{T, eqb}
@@ -20,8 +20,8 @@ use Rattle.ipl.specs.Book.{Book, goalRefusal, answer}
 use Rattle.ipl.proofs.Lists.{All-map}
 use Rattle.ipl.proofs.Search.{OutcomeRight}
 use Rattle.ipl.proofs.Limits.{Fits, Ended}
-use Rattle.ipl.proofs.Book.{Reached, goal-taken, answer-right, question-ended}
-use Rattle.prover.specs.Calls.{totalAfter}
+use Rattle.ipl.proofs.Book.{Reached, goal-taken, answer-right, goal-ended}
+use Rattle.prover.specs.Work.{staying}
 use Rattle.prover.proofs.Answers.{answer-refused}
 use Rattle.ipl.specs.Formula.{Formula}
 use Rattle.syntax.specs.Nodes.{nodes, named}
@@ -101,14 +101,14 @@ pub goal-number : (k : Book) (g : ℕ) → goalRefusal k g ≤ 6
 unfolding goalRefusal
 goal-number k g = by-cond (λ (x : ℕ). x ≤ 6) (atomOrBot (k .n) g) 0 6 (λ _. omega arith) (λ _. omega arith)
 
-module _ (k : Book) (g total : ℕ) (r : Reached k) where
+module _ (k : Book) (g before : ℕ) (r : Reached k) where
   few : k .n < 10 ^ 20
   few = omega (arith, r .rows .well-formed .few, limit-small)
 
-  outcome-fits : (o : Outcome) → OutcomeRight (k .n) (k .flats) (k .implications) g (k .steps) o → Fits o → Ended o → length (printedEnd (k .n) total o) ≤ longest
+  outcome-fits : (o : Outcome) → OutcomeRight (k .n) (k .flats) (k .implications) g (k .steps) o → Fits o → Ended o → length (printedEnd (k .n) before o) ≤ longest
   unfolding printedEnd validReport refutedReport ascii longest
   outcome-fits (valid end) right fits e =
-      let q = totalAfter total (end .questions) in
+      let q = staying (before + end .questions) in
       let lines = steps-length (k .n) (k .flats) (k .implications) [] (end .steps) (r .rows .well-formed .few) (r .rows .well-formed .implication-count) (right .grown .steps) in
       omega (
         arith,
@@ -119,7 +119,7 @@ module _ (k : Book) (g total : ℕ) (r : Reached k) where
         fits .0,
       )
   outcome-fits (refuted end) right fits e =
-      let q = totalAfter total (end .questions) in
+      let q = staying (before + end .questions) in
       omega (
         arith,
         length-append (ascii "refuted\n" ++ figures (k .n) q (length (end .steps))) (each worldLine (end .worlds)),
@@ -132,12 +132,12 @@ module _ (k : Book) (g total : ℕ) (r : Reached k) where
   outcome-fits unfinished right fits e = absurd e
 
   -- A goal out of range is refused at once.
-  pub answer-fits : length (printedEnd (k .n) total (answer k g)) ≤ longest
+  pub answer-fits : length (printedEnd (k .n) before (answer k g)) ≤ longest
   unfolding printedEnd longest
   answer-fits = elim (decLe (goalRefusal k g) 0) [
     | yes l ↦
         let right = answer-right k g r in
-        outcome-fits (answer k g) (right .0) (right .1) (question-ended k g r (omega arith))
+        outcome-fits (answer k g) (right .0) (right .1) (goal-ended k g r (omega arith))
     | no l ↦
         rw (answer-refused k g (λ z. omega arith))
         (omega (arith, goal-number k g, refusal-length (eqb (goalRefusal k g) 3) 1 3 (goalRefusal k g) 0 (omega (arith, goal-number k g)) (omega arith)))
@@ -146,7 +146,7 @@ module _ (k : Book) (g total : ℕ) (r : Reached k) where
 text-ended : (t : Formula) → named (nodes t .table) ≤ 64 → Ended (answer (textBook t) (goalOf t))
 text-ended t few =
     let goal-ok : T (atomOrBot (textBook t .n) (goalOf t)) = rw (ap (λ (b : Book). b .n) (text-book t few)) (goal-in-range t few) in
-    question-ended (textBook t) (goalOf t) (text-reached t) (goal-taken (textBook t) (goalOf t) goal-ok)
+    goal-ended (textBook t) (goalOf t) (text-reached t) (goal-taken (textBook t) (goalOf t) goal-ok)
 
 -- The place of a refused text is at most its length, which is at most 4,096 where the place is not 0.
 refused-fits : (s : List ℕ) (number place : ℕ) → text.Refused s number place → (number ≤ 4) × (place ≤ 4096)

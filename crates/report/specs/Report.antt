@@ -4,7 +4,9 @@ use Prim.Native.Nat.{ℕ}
 use lib.Dec.{eqb}
 use lib.ListN.{length}
 use Rattle.ipl.specs.Search.{Step}
+use Rattle.ipl.specs.Authors.{program}
 use Rattle.prover.specs.State.{stepsOf, worldsOf}
+use Rattle.prover.specs.Work.{workAt, worksOf}
 use Rattle.prover.specs.declared.Session.{Session}
 use Rattle.prover.specs.declared.Verdict.{Verdict}
 use Rattle.prover.specs.declared.Verdict.the-variants.{Valid, Refuted, Refused}
@@ -34,11 +36,16 @@ validReport n questions S = ascii "valid\n" ++ figures n questions (length S) ++
 unfoldable pub refutedReport : ℕ → ℕ → ℕ → List ℕ → List ℕ
 refutedReport n questions learned W = ascii "refuted\n" ++ figures n questions learned ++ each worldLine W
 
--- The report of a verdict and the session that holds it. A row past its table's end counts as empty.
-abbrev pub reportBy : Verdict → Session → List ℕ
-reportBy (Valid steps) s = validReport (s .n) (s .total) (stepsOf (s .steps))
-reportBy (Refuted worlds) s = refutedReport (s .n) (s .total) (length (stepsOf (s .steps))) (worldsOf (s .worlds))
-reportBy (Refused number place) s = textRefusal number place
+-- The report of a verdict and the session that holds it, with so many questions. A row past its table's end counts as empty.
+abbrev pub reportWith : ℕ → Verdict → Session → List ℕ
+reportWith questions (Valid steps) s = validReport (s .n) questions (stepsOf (s .steps))
+reportWith questions (Refuted worlds) s = refutedReport (s .n) questions (length (stepsOf (s .steps))) (worldsOf (s .worlds))
+reportWith questions (Refused number place) s = textRefusal number place
 
+-- To author a: with that author's count.
+abbrev pub reportBy : Verdict → Session → ℕ → List ℕ
+reportBy v s a = reportWith (workAt (worksOf (s .authors)) a .questions) v s
+
+-- "The program is 0."
 abbrev pub reportOf : Settled → List ℕ
-reportOf r = reportBy (r .verdict) (r .session)
+reportOf r = reportBy (r .verdict) (r .session) program

@@ -12,31 +12,33 @@ mod lines;
 // A line for each world.
 pub use lines::worlds;
 
-fn write_valid(draft: &mut [u8], s: Session) -> usize
-    ensures { λ r. ⌜ Appends (validReport (s .n) (s .total) (stepsOf (s .steps))) (now (draft .entry)) 0 (now (draft .exit)) r ⌝ }
+fn write_valid(draft: &mut [u8], s: Session, questions: u32) -> usize
+    ensures { λ r. ⌜ Appends (validReport (s .n) questions (stepsOf (s .steps))) (now (draft .entry)) 0 (now (draft .exit)) r ⌝ }
 {
     let steps = s.steps;
     let first = text::word(draft, 0, b"valid\n");
-    let second = lines::figures(draft, first, s.n, s.total, steps.count);
+    let second = lines::figures(draft, first, s.n, questions, steps.count);
     lines::steps(draft, second, steps)
 }
 
-fn write_refuted(draft: &mut [u8], s: Session) -> usize
-    ensures { λ r. ⌜ Appends (refutedReport (s .n) (s .total) (length (stepsOf (s .steps))) (worldsOf (s .worlds))) (now (draft .entry)) 0 (now (draft .exit)) r ⌝ }
+fn write_refuted(draft: &mut [u8], s: Session, questions: u32) -> usize
+    ensures { λ r. ⌜ Appends (refutedReport (s .n) questions (length (stepsOf (s .steps))) (worldsOf (s .worlds))) (now (draft .entry)) 0 (now (draft .exit)) r ⌝ }
 {
     let worlds = s.worlds;
     let first = text::word(draft, 0, b"refuted\n");
-    let second = lines::figures(draft, first, s.n, s.total, s.steps.count);
+    let second = lines::figures(draft, first, s.n, questions, s.steps.count);
     lines::worlds(draft, second, worlds)
 }
 
-// Writes the report of a verdict and the session that holds it at the draft's beginning.
-pub fn write(draft: &mut [u8], verdict: Verdict, s: Session) -> usize
-    ensures { λ r. ⌜ Appends (reportBy verdict s) (now (draft .entry)) 0 (now (draft .exit)) r ⌝ }
+// Writes the report of a verdict to an author and the session that holds it at the draft's beginning.
+pub fn write(draft: &mut [u8], verdict: Verdict, s: Session, author: u8) -> usize
+    ensures { λ r. ⌜ Appends (reportBy verdict s author) (now (draft .entry)) 0 (now (draft .exit)) r ⌝ }
 {
+    let authors = s.authors;
+    let questions = prover::work_of(authors, author).questions;
     match verdict {
-        Verdict::Valid(_) => write_valid(draft, s),
-        Verdict::Refuted(_) => write_refuted(draft, s),
+        Verdict::Valid(_) => write_valid(draft, s, questions),
+        Verdict::Refuted(_) => write_refuted(draft, s, questions),
         Verdict::Refused(number, place) => text::refusal(draft, number, place, number == 3),
     }
 }
@@ -47,6 +49,6 @@ pub fn report(settled: Settled, output: &mut [u8]) -> usize
 {
     let mut draft = [0u8; text::DRAFT];
     let verdict = settled.verdict;
-    let n = write(&mut draft, verdict, settled.session);
+    let n = write(&mut draft, verdict, settled.session, ipl::PROGRAM);
     text::hand_over(&draft, n, output)
 }

@@ -1,6 +1,6 @@
 -- Laws of the values of the code that lines are read as.
 use mathlib.Core.Bool.{Bool, true, false, cond, _&&_, true≢false}
-use mathlib.Core.List.{List, []}
+use mathlib.Core.List.{List, [], _∷_}
 use mathlib.Core.Option.{Option, none, some, bind, Option·map}
 use mathlib.Core.Path.{_≡_, refl, sym, ap, _∙_, subst}
 use Prim.Native.Nat.{ℕ, _+_, _-_, _%_, _≤_, _<_}
@@ -11,13 +11,14 @@ use lib.ListN.{length, take, drop, drop-of-length-le}
 use lib.Seq.{drop-drop}
 use borrow.Author.Tests.{eq-eqb, ne-eqb}
 use Rattle.ipl.specs.Lists.{all}
+use Rattle.ipl.specs.Authors.{program}
+use Rattle.text.specs.Text.{ascii}
 use Rattle.script.specs.Words.{split, wordsOf}
 use Rattle.script.specs.Numbers.{isHexDigit, paired, bytesIn}
-use Rattle.script.specs.Command.{Command, command, readText, checkSheet, byteIn, argument, end, orNone}
-use Rattle.script.specs.Places.{between, NextWord, Taken, EndsInside, Takes, byteOf}
-use Rattle.script.specs.Reading.{meaning, Inside, Means, Arguments, OneByte, IsLast, Completes}
+use Rattle.script.specs.Command.{Command, command, readText, checkSheet, same, byteIn, argument, end, onlyByte, authorIn, orNone}
+use Rattle.script.specs.Places.{between, NextWord, Taken, firstOf, IsTaken, TakenAs, Takes, noWord, byteOf}
+use Rattle.script.specs.Reading.{meaning, Inside, Means, Arguments, Completes}
 use Rattle.script.specs.declared.numbers.Byte.{Byte}
-use Rattle.script.specs.declared.numbers.Byte.the-variants as byte
 use Rattle.script.specs.declared.words.Word.{Word}
 use Rattle.script.specs.declared.reading.Verb.the-variants as verb
 use Rattle.script.specs.declared.reading.Call.{Call}
@@ -25,24 +26,23 @@ use Rattle.script.specs.declared.reading.Call.the-variants as code
 
 -- ---- no further word, or one
 
-pub no-more-words : {line : List ℕ} {from : ℕ} {w : Word} → NextWord line from w → IsLast line from (eqb (w .start) (w .end))
-no-more-words {line} {from} {w} n = record {
-  is = λ c. elim (decLt (w .start) (w .end)) [
-    | yes l ↦ rw (n .word l, ne-eqb (w .start) (w .end) (λ e. omega arith))
-    | no l ↦ let e : w .start ≡ w .end = omega (arith, n .ordered) in rw (n .nothing e, eq-eqb (w .start) (w .end) e)
-  ];
-}
+pub no-more-words : {line : List ℕ} {from : ℕ} {w : Word} → NextWord line from w → eqb (w .start) (w .end) ≡ noWord (wordsOf (drop from line))
+no-more-words {line} {from} {w} n = elim (decLt (w .start) (w .end)) [
+  | yes l ↦ rw (n .word l, ne-eqb (w .start) (w .end) (λ e. omega arith))
+  | no l ↦ let e : w .start ≡ w .end = omega (arith, n .ordered) in rw (n .nothing e, eq-eqb (w .start) (w .end) e)
+]
 
 -- Of a test that came out so.
-ends-as : {line : List ℕ} {from : ℕ} {r known : Bool} → IsLast line from r → r ≡ known → (c : Command) → end c (wordsOf (drop from line)) ≡ cond known (some c) none
-ends-as last e c = last .is c ∙ ap (λ (b : Bool). cond b (some c) none) e
+ends-as : (ws : List (List ℕ)) {r known : Bool} → r ≡ noWord ws → r ≡ known → (c : Command) → end c ws ≡ cond known (some c) none
+ends-as [] is e c = ap (λ (b : Bool). cond b (some c) none) (sym is ∙ e)
+ends-as (w ∷ ws) is e c = ap (λ (b : Bool). cond b (some c) none) (sym is ∙ e)
 
-module _ {line : List ℕ} {from : ℕ} {r : Bool} (last : IsLast line from r) (call : Call) where
+module _ {line : List ℕ} {from : ℕ} {r : Bool} (last : r ≡ noWord (wordsOf (drop from line))) (call : Call) where
   pub complete : r ≡ true → Completes line from call call
-  complete e = record { is = λ c is. is ∙ sym (ap orNone (ends-as last e c)); inside = λ i. i }
+  complete e = record { is = λ c is. is ∙ sym (ap orNone (ends-as (wordsOf (drop from line)) last e c)); inside = λ i. i }
 
   pub incomplete : r ≡ false → Completes line from call code.NoCall
-  incomplete e = record { is = λ c is. sym (ap orNone (ends-as last e c)); inside = λ i. tt }
+  incomplete e = record { is = λ c is. sym (ap orNone (ends-as (wordsOf (drop from line)) last e c)); inside = λ i. tt }
 
 pub finished : {line : List ℕ} {from : ℕ} {call r : Call} (c : Command) → Completes line from call r → meaning line call ≡ command c → Inside line call
     → Means line (orNone (end c (wordsOf (drop from line)))) r
@@ -52,44 +52,82 @@ finished c p e i = record { is = p .is c e; inside = p .inside i }
 
 module _ {line : List ℕ} {from : ℕ} {w : Word} (n : NextWord line from w) (number : List ℕ → Option ℕ) where
   pub no-argument : w .start ≡ w .end → Takes number line from none
-  no-argument e = record { is = λ further. rw (n .nothing e); inside = tt }
+  no-argument e = record { is = rw (n .nothing e) }
 
   pub unfit-argument : (w .start ≡ w .end → ⊥) → none ≡ number (between (w .start) (w .end) line) → Takes number line from none
-  unfolding bind
-  unfit-argument d e = record { is = λ further. rw (n .word (omega (arith, n .ordered)), ← e); inside = tt }
+  unfit-argument d e = record { is = rw (n .word (omega (arith, n .ordered))) (sym e) }
 
   pub fit-argument : (w .start ≡ w .end → ⊥) → (x : ℕ) → some x ≡ number (between (w .start) (w .end) line)
       → Takes number line from (some (record { value = x; end = w .end }))
-  unfolding bind
-  fit-argument d x e = record { is = λ further. rw (n .word (omega (arith, n .ordered)), ← e); inside = n .inside }
+  fit-argument d x e =
+      record { is = record { word = between (w .start) (w .end) line; words = n .word (omega (arith, n .ordered)); is = sym e; inside = n .inside } }
 
-module _ {number : List ℕ → Option ℕ} {line : List ℕ} {from : ℕ} {o : Option Taken} (p : Takes number line from o) (further : ℕ → List (List ℕ) → Option Command) where
-  pub missing : o ≡ none → Means line (orNone (argument number further (wordsOf (drop from line)))) code.NoCall
-  missing e = record { is = rw (p .is further, e); inside = tt }
+no-first : (number : List ℕ → Option ℕ) (further : ℕ → List (List ℕ) → Option Command) (ws : List (List ℕ)) → firstOf number ws ≡ none → argument number further ws ≡ none
+unfolding bind
+no-first number further [] e = refl
+no-first number further (w ∷ ws) e = rw e
 
-  pub present : {t : Taken} {r : Call} → o ≡ some t → Means line (orNone (further (t .value) (wordsOf (drop (t .end) line)))) r
-      → Means line (orNone (argument number further (wordsOf (drop from line)))) r
-  present {t} {r} e m = rw (p .is further, e) m
+module _ {number : List ℕ → Option ℕ} {line : List ℕ} {from : ℕ} {o : Option Taken} (p : Takes number line from o) where
+  pub not-taken : o ≡ none → firstOf number (wordsOf (drop from line)) ≡ none
+  not-taken e = subst (TakenAs number line from) e (p .is)
+
+  pub taken : {t : Taken} → o ≡ some t → IsTaken number line from t
+  taken e = subst (TakenAs number line from) e (p .is)
+
+  pub taken-inside : {t : Taken} → o ≡ some t → t .end ≤ length line
+  taken-inside e = taken e .inside
+
+  module _ (further : ℕ → List (List ℕ) → Option Command) where
+    pub missing : o ≡ none → Means line (orNone (argument number further (wordsOf (drop from line)))) code.NoCall
+    missing e = record { is = sym (ap orNone (no-first number further (wordsOf (drop from line)) (not-taken e))); inside = tt }
+
+    pub present : {t : Taken} {r : Call} → o ≡ some t → Means line (orNone (further (t .value) (wordsOf (drop (t .end) line)))) r
+        → Means line (orNone (argument number further (wordsOf (drop from line)))) r
+    unfolding bind
+    present e m = rw (taken e .words, taken e .is) m
 
 -- The only one.
 module _ {line : List ℕ} {from : ℕ} {o : Option Taken} (p : Takes byteIn line from o) where
-  pub no-argument-byte : o ≡ none → OneByte line from byte.None
-  no-argument-byte e = record { is = λ call. p .is (λ x. end (call x)) ∙ rw e }
+  pub no-argument-byte : o ≡ none → none ≡ onlyByte (wordsOf (drop from line))
+  no-argument-byte e = by-words (wordsOf (drop from line)) (not-taken p e)
+    where
+      by-words : (ws : List (List ℕ)) → firstOf byteIn ws ≡ none → none ≡ onlyByte ws
+      by-words [] f = refl
+      by-words (w ∷ []) f = sym f
+      by-words (w ∷ v ∷ ws) f = refl
 
-  module _ {t : Taken} (e : o ≡ some t) {r : Bool} (last : IsLast line (t .end) r) where
-    pub one-byte : r ≡ true → OneByte line from (byte.Is (t .value))
-    one-byte l = record { is = λ call. p .is (λ x. end (call x)) ∙ rw e (ends-as last l (call (t .value))) }
+  module _ {t : Taken} (e : o ≡ some t) {r : Bool} (last : r ≡ noWord (wordsOf (drop (t .end) line))) where
+    behind : (known : Bool) → r ≡ known → cond known (some (t .value)) none ≡ onlyByte (wordsOf (drop from line))
+    behind known l = rw (taken p e .words) (by-words (wordsOf (drop (t .end) line)) (sym last ∙ l))
+      where
+        by-words : (ws : List (List ℕ)) → noWord ws ≡ known → cond known (some (t .value)) none ≡ onlyByte (taken p e .word ∷ ws)
+        by-words [] f = rw (← f) (sym (taken p e .is))
+        by-words (v ∷ ws) f = rw (← f) refl
 
-    pub two-arguments : r ≡ false → OneByte line from byte.None
-    two-arguments l = record { is = λ call. p .is (λ x. end (call x)) ∙ rw e (ends-as last l (call (t .value))) }
+    pub one-byte : r ≡ true → some (t .value) ≡ onlyByte (wordsOf (drop from line))
+    one-byte l = behind true l
+
+    pub two-arguments : r ≡ false → none ≡ onlyByte (wordsOf (drop from line))
+    two-arguments l = behind false l
 
 -- A call of one byte.
-pub by-one-byte : {line : List ℕ} {from : ℕ} {b : Byte} (known : Byte) → OneByte line from b → b ≡ known → (call : ℕ → Command) (r : Call)
-    → meaning line r ≡ orNone (Option·map call (byteOf known)) → Inside line r → Means line (orNone (argument byteIn (λ x. end (call x)) (wordsOf (drop from line)))) r
-by-one-byte known one e call r is inside = record { is = is ∙ sym (ap orNone (one .is call ∙ ap (λ (b : Byte). Option·map call (byteOf b)) e)); inside = inside }
+pub by-byte : {line : List ℕ} {o : Option ℕ} {b : Byte} (known : Byte) → byteOf b ≡ o → b ≡ known → (call : ℕ → Command) (r : Call)
+    → meaning line r ≡ orNone (Option·map call (byteOf known)) → Inside line r → Means line (orNone (Option·map call o)) r
+by-byte known is e call r same inside = record { is = same ∙ ap (λ (o : Option ℕ). orNone (Option·map call o)) (ap byteOf (sym e) ∙ is); inside = inside }
 
-pub taken-inside : {number : List ℕ → Option ℕ} {line : List ℕ} {from : ℕ} {o : Option Taken} {t : Taken} → Takes number line from o → o ≡ some t → t .end ≤ length line
-taken-inside {line = line} p e = subst (EndsInside line) e (p .inside)
+-- ---- an author
+
+module _ {line : List ℕ} {from : ℕ} {w : Word} (n : NextWord line from w) where
+  pub no-author : w .start ≡ w .end → some program ≡ authorIn (wordsOf (drop from line))
+  no-author e = rw (n .nothing e)
+
+  module _ (more : w .start ≡ w .end → ⊥) where
+    pub author-behind : (b : Byte) → between (w .start) (w .end) line ≡ ascii "by" → byteOf b ≡ onlyByte (wordsOf (drop (w .end) line)) → byteOf b ≡ authorIn (wordsOf (drop from line))
+    unfolding same ascii
+    author-behind b is only = rw (n .word (omega (arith, n .ordered)), is) only
+
+    pub another-word : same (between (w .start) (w .end) line) (ascii "by") ≡ false → none ≡ authorIn (wordsOf (drop from line))
+    another-word e = rw (n .word (omega (arith, n .ordered)), e)
 
 -- ---- a text
 

@@ -4,7 +4,8 @@ use mathlib.Core.List.{List, [], _++_}
 use mathlib.Core.Logic.{inl, inr}
 use mathlib.Core.Option.{Option, none, some}
 use mathlib.Core.Path.{_≡_, ap, _∙_}
-use Prim.Native.Nat.{ℕ, _≤_}
+use Prim.Native.Nat.{ℕ, _/_, _%_, _≤_}
+use native.Mathlib.Nat.{mod-le, div-le-self}
 use native.Mathlib.Decide.{decLe}
 use native.Mathlib.Omega.{arith}
 use lib.Dec.{T, eqb, leb, ltb}
@@ -18,11 +19,18 @@ use Rattle.ipl.specs.Range.{implicationTable, atomOrBot, flatInRange, implicati
 use Rattle.ipl.specs.Lists.{all}
 use Rattle.ipl.specs.Marks.{markTable, isSet}
 use Rattle.ipl.specs.Page.{goalTable}
+use Rattle.ipl.specs.Authors.{isAuthor, authorNumber}
+use Rattle.ipl.specs.Search.{refused}
 use Rattle.ipl.specs.Book.{Book, addFlat, addImplication, Call, add, question, setMark, returnTo, page, countInRange}
-use Rattle.ipl.specs.Book.{openRefusal, flatsFull, flatRefusal, implicationRefusal, additionRefusal, markRefusal, returnRefusal, pageRefusal, refusal}
+use Rattle.ipl.specs.Book.{openRefusal, flatsFull, flatRefusal, implicationRefusal, additionRefusal, answer, markRefusal, returnRefusal, pageRefusal, refusal}
 use Rattle.ipl.proofs.Range.{AtomOrBot, atom-or-bot}
 use Rattle.ipl.proofs.Page.{page-few}
 use Rattle.prover.specs.State.{book}
+use Rattle.prover.specs.Work.{workAt, worksOf}
+use Rattle.prover.specs.Calls.{meanRefusal, meanOf, meanBy}
+use Rattle.prover.specs.declared.PerVerdict.the-variants.{Refused}
+use Rattle.prover.specs.declared.Work.{Work}
+use Rattle.prover.proofs.Works.{Bounded, bounded-at}
 use Rattle.prover.specs.declared.Session.{Session}
 use Rattle.ipl.specs.Formula.{Formula}
 use Rattle.syntax.specs.Nodes.{nodes, named}
@@ -42,9 +50,10 @@ use Rattle.text.proofs.Appending.{begun}
 use Rattle.text.proofs.Hexadecimal.{hex-length}
 use Rattle.text.proofs.Lengths.{labelled-length, refusal-length}
 use Rattle.judgement.proofs.Fitting.{judgement-fits}
+use Rattle.report.specs.Printed.{printedEnd}
 use Rattle.report.proofs.Fitting.{answer-fits, text-refusal-short}
-use Rattle.script.specs.Command.{Command, openSession, readText, callBook, tellLength, writeSheet, checkSheet, Line, silent, command, noCall}
-use Rattle.script.specs.State.{refusedLine, changedLine, textLine, lengthLine, sheetLine, printedCall, printedCommand, printedLine}
+use Rattle.script.specs.Command.{Command, openSession, readText, callBook, tellLength, writeSheet, checkSheet, tellMean, Line, silent, command, noCall}
+use Rattle.script.specs.State.{refusedLine, changedLine, textLine, lengthLine, sheetLine, meanLine, printedCall, printedCommand, printedLine}
 use Rattle.script.specs.Transcript.{mostLines}
 use Rattle.script.specs.Run.{outputRoom}
 use Rattle.script.proofs.PageLines.{entries-length}
@@ -60,14 +69,17 @@ whole {T} {r = r} fits room a = let b = begun a in b .same ∙ take-all r T (ome
 
 -- The numbers of refused changes have at most two digits.
 abbrev Small : ℕ → Type 0
-Small k = k ≤ 19
+Small k = k ≤ 21
+
+refused-fits : (k : ℕ) → Small k → Fits (refusedLine k)
+refused-fits k h = omega (arith, refusal-length false 1 0 k 0 (omega arith) (omega arith))
 
 changed-fits : (k : ℕ) → Small k → Fits (changedLine k)
 unfolding ascii
 changed-fits k h =
     by-cond Fits (eqb k 0) (ascii "done\n") (refusedLine k)
     (λ _. omega arith)
-    (λ _. omega (arith, refusal-length false 1 0 k 0 (omega arith) (omega arith)))
+    (λ _. refused-fits k h)
 
 open-number : (n : ℕ) → Small (openRefusal n)
 unfolding openRefusal
@@ -102,12 +114,16 @@ return-number k j =
     (λ _. by-cond Small (isSet j (k .marks)) 0 18 (λ _. omega arith) (λ _. omega arith))
     (λ _. omega arith)
 
-page-number : (k : Book) (gs : List ℕ) → Small (pageRefusal k gs)
+author-small : (a k : ℕ) → Small k → Small (authorNumber a k)
+author-small a k small = by-cond Small (isAuthor a) k 20 (λ _. small) (λ _. omega arith)
+
+page-number : (k : Book) (a : ℕ) (gs : List ℕ) → Small (pageRefusal k a gs)
 unfolding pageRefusal
-page-number k gs =
-    by-cond Small (leb (length gs) goalTable) (cond (all (atomOrBot (k .n)) gs) 0 6) 19
+page-number k a gs =
+    author-small a (cond (leb (length gs) goalTable) (cond (all (atomOrBot (k .n)) gs) 0 6) 19)
+    (by-cond Small (leb (length gs) goalTable) (cond (all (atomOrBot (k .n)) gs) 0 6) 19
     (λ _. by-cond Small (all (atomOrBot (k .n)) gs) 0 6 (λ _. omega arith) (λ _. omega arith))
-    (λ _. omega arith)
+    (λ _. omega arith))
 
 -- ---- texts
 
@@ -155,24 +171,55 @@ sheet-fits (some x) right =
       range-longest (x .problem) (x .claim) (right .range),
     )
 
+-- ---- means
+
+mean-fits : (W : List Work) → Bounded W → (a : ℕ) → Fits (meanLine (meanBy (meanRefusal W a) W a))
+unfolding ascii
+mean-fits W bounded a =
+    by-cond (λ told. Fits (meanLine told)) (eqb number 0) (meanOf work) (Refused number) (λ _. whole-fits)
+    (λ _. refused-fits number (author-small a _ (by-cond Small (eqb (work .verdicts) 0) 21 0 (λ _. omega arith) (λ _. omega arith))))
+  where
+    work : Work
+    work = workAt W a
+
+    number : ℕ
+    number = meanRefusal W a
+
+    whole-fits : Fits (meanLine (meanOf work))
+    whole-fits =
+        let mean = work .questions / work .verdicts in
+        let remainder = work .questions % work .verdicts in
+        let few = bounded-at W a bounded in
+        omega (
+          arith,
+          length-append (labelled "mean " mean ++ labelled " remainder " remainder) (ascii "\n"),
+          length-append (labelled "mean " mean) (labelled " remainder " remainder),
+          labelled-length "mean " 9 mean (omega (arith, few, div-le-self (work .questions) (work .verdicts))),
+          labelled-length " remainder " 9 remainder (omega (arith, few, mod-le (work .questions) (work .verdicts))),
+        )
+
 -- ---- every line
 
 module _ (s : Session) (h : Stands s) where
   call-fits : (c : Call) → Fits (printedCall (stateOf s) c)
-  unfolding refusal additionRefusal longest
+  unfolding refusal additionRefusal longest printedEnd
   call-fits (add (addFlat f)) = changed-fits (flatRefusal (book s) f) (flat-number (book s) f)
   call-fits (add (addImplication i)) = changed-fits (implicationRefusal (book s) i) (implication-number (book s) i)
-  call-fits (question g) = omega (arith, answer-fits (book s) g (s .total) (h .reached))
+  call-fits (question a g) =
+      by-cond (λ o. Fits (printedEnd (s .n) before o)) (isAuthor a) (answer (book s) g) (refused 20)
+      (λ _. omega (arith, answer-fits (book s) g before (h .standing .reached)))
+      (λ _. omega (arith, refusal-length (eqb 20 3) 1 3 20 0 (omega arith) (omega arith)))
+    where
+      before : ℕ
+      before = workAt (worksOf (s .authors)) a .questions
   call-fits (setMark j) = changed-fits (markRefusal j) (mark-number j)
   call-fits (returnTo j) = changed-fits (returnRefusal (book s) j) (return-number (book s) j)
-  call-fits (page gs) = elim (decLe (pageRefusal (book s) gs) 0) [
+  call-fits (page a gs) = elim (decLe (pageRefusal (book s) a gs) 0) [
     | yes l ↦
-        let none : pageRefusal (book s) gs ≡ 0 = omega arith in
-        let few = page-few (book s) gs none in
-        rw (eq-eqb (pageRefusal (book s) gs) 0 none) (omega (arith, few, entries-length gs (book s) (h .reached) [] tt 0 (omega (arith, few))))
-    | no l ↦
-        let number = pageRefusal (book s) gs in
-        rw (ne-eqb number 0 (λ e. omega arith)) (omega (arith, page-number (book s) gs, refusal-length false 1 0 number 0 (omega (arith, page-number (book s) gs)) (omega arith)))
+        let none : pageRefusal (book s) a gs ≡ 0 = omega arith in
+        let few = page-few (book s) a gs none in
+        rw (eq-eqb (pageRefusal (book s) a gs) 0 none) (omega (arith, few, entries-length gs (book s) (h .standing .reached) [] tt 0 (omega (arith, few))))
+    | no l ↦ rw (ne-eqb (pageRefusal (book s) a gs) 0 (λ e. omega arith)) (refused-fits (pageRefusal (book s) a gs) (page-number (book s) a gs))
   ]
 
   command-fits : (c : Command) → Fits (printedCommand (stateOf s) c)
@@ -180,9 +227,10 @@ module _ (s : Session) (h : Stands s) where
   command-fits (openSession n) = changed-fits (openRefusal n) (open-number n)
   command-fits (readText t) = text-fits t (text.judge t) (judge-right t)
   command-fits (callBook c) = call-fits c
-  command-fits tellLength = length-fits (certificateHeld s (s .held)) (h .right)
-  command-fits writeSheet = sheet-fits (certificateHeld s (s .held)) (h .right)
+  command-fits tellLength = length-fits (certificateHeld s (s .held)) (h .standing .right)
+  command-fits writeSheet = sheet-fits (certificateHeld s (s .held)) (h .standing .right)
   command-fits (checkSheet bytes) = omega (arith, judgement-fits bytes)
+  command-fits (tellMean a) = mean-fits (worksOf (s .authors)) (h .bounded) a
 
   pub line-fits : (number : ℕ) → number ≤ mostLines → (l : Line) → Fits (printedLine (stateOf s) number l)
   unfolding ascii

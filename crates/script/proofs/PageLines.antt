@@ -18,7 +18,7 @@ use Rattle.ipl.proofs.Lists.{All-append}
 use Rattle.ipl.proofs.Search.{OutcomeRight}
 use Rattle.ipl.proofs.Limits.{Fits, Ended}
 use Rattle.ipl.proofs.Page.{earliest-found, entry-kept}
-use Rattle.ipl.proofs.Book.{Reached, answer-right, question-ended, question-reached}
+use Rattle.ipl.proofs.Book.{Reached, answer-right, goal-ended, goal-reached}
 use Rattle.prover.specs.Page.{goalsOf}
 use Rattle.prover.specs.Demand.{RecordIs, RecordsAre, none, one-more}
 use Rattle.prover.specs.declared.GoalAnswer.{GoalAnswer}
@@ -112,7 +112,7 @@ module _ (k : Book) (g : ℕ) (r : Reached k) where
 
   answer-small : SmallNumber (answer k g)
   answer-small = elim (decLe (goalRefusal k g) 0) [
-    | yes l ↦ ended-small (answer k g) (question-ended k g r (omega arith))
+    | yes l ↦ ended-small (answer k g) (goal-ended k g r (omega arith))
     | no l ↦ rw (answer-refused k g (λ z. omega arith)) (omega (arith, goal-number k g))
   ]
 
@@ -157,6 +157,6 @@ entries-length (g ∷ gs) k r M places i h =
       arith,
       length-append (entryLines i e) (entriesLines (suc i) rest),
       entry-length k g r i hi M places (earliest g M) refl,
-      entries-length gs (afterEntry k e) (entry-kept Reached question-reached k g (earliest g M) r) (M ++ foundBy i e)
+      entries-length gs (afterEntry k e) (entry-kept Reached goal-reached k g (earliest g M) r) (M ++ foundBy i e)
           (All-append (λ m. Short (m .place)) M (foundBy i e) places (found-short i hi e)) (suc i) (omega (arith, h)),
     )

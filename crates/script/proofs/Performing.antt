@@ -7,14 +7,14 @@ use native.Mathlib.Omega.{arith}
 use lib.ListN.{length, take, drop, length-drop}
 use lib.Seq.{take-all}
 use Rattle.ipl.specs.Book.{page}
-use Rattle.prover.specs.Page.{goalsOf, recordsOf, PagedAs}
+use Rattle.prover.specs.Page.{goalsOf, PageAnswered, recordsOf, PagedAs}
 use Rattle.prover.specs.declared.Records.{Records}
 use Rattle.prover.specs.declared.Paged.{Paged}
 use Rattle.prover.specs.declared.Session.{Session}
 use Rattle.text.specs.Output.{Appends}
 use Rattle.text.proofs.Appending.{begun}
 use Rattle.script.specs.Words.{wordsOf}
-use Rattle.script.specs.Command.{callBook, goalsIn}
+use Rattle.script.specs.Command.{callBook, GoalList, pageIn}
 use Rattle.script.specs.Reading.{goalRoom, GoalsAre, GoalsRead, pageOf, meaning, Inside}
 use Rattle.script.specs.Answer.{pageLines, CommandDone, LineDone, Writes, lineRoom}
 use Rattle.script.specs.Pieces.{CallIs, Answers}
@@ -34,24 +34,25 @@ pub known-inside : (line : List ℕ) {call known : Call} → Inside line call �
 known-inside line h e = subst (Inside line) e h
 
 -- A page of the goals that were read.
-module _ (line : List ℕ) (start : ℕ) (gs : List ℕ) (goals : Goals) (h : GoalsRead (goalsIn (wordsOf (drop start line))) goals) (e : goalsIn (wordsOf (drop start line)) ≡ some gs) where
-  goals-are : GoalsAre gs goals
-  goals-are = subst (λ (o : Option (List ℕ)). GoalsRead o goals) e h
+module _ (line : List ℕ) (start : ℕ) (q : GoalList) (goals : Goals) (h : GoalsRead (pageIn (wordsOf (drop start line))) goals) (e : pageIn (wordsOf (drop start line)) ≡ some q) where
+  goals-are : GoalsAre (q .goals) goals × (goals .author ≡ q .author)
+  goals-are = subst (λ (o : Option GoalList). GoalsRead o goals) e h
 
   pub goals-few : goals .count ≤ goalRoom
-  goals-few = omega (arith, goals-are .size)
+  goals-few = omega (arith, goals-are .0 .size)
 
   pub page-made : {s : Session} {lent : Records} {p : Paged} {entry exit : List ℕ} {n : ℕ}
-      → (lent .count ≡ goals .count) × (goalsOf (recordsOf lent) ≡ take (goals .count) (goals .rows)) → PagedAs s lent p
+      → (lent .count ≡ goals .count) × (goalsOf (recordsOf lent) ≡ take (goals .count) (goals .rows)) → PagedAs s (goals .author) lent p
       → Appends (pageLines (p .changed .refusal) (recordsOf (p .records))) entry 0 exit n
-      → Writes (CommandDone s (callBook (page gs))) entry exit (record { session = p .changed .session; length = n })
-  page-made {lent = lent} {p} l a w =
-      (_, (recordsOf lent, l .1 ∙ goals-are .first, record { changed = p .changed; records = recordsOf (p .records) }, a .answered, refl, refl), w)
+      → Writes (CommandDone s (callBook (page (q .author) (q .goals)))) entry exit (record { session = p .changed .session; length = n })
+  page-made {s} {lent = lent} {p} l a w =
+      let answered = subst (λ (a : ℕ). PageAnswered s a (recordsOf lent) (recordsOf (p .records)) (p .changed)) (goals-are .1) (a .answered) in
+      (_, (recordsOf lent, l .1 ∙ goals-are .0 .first, record { changed = p .changed; records = recordsOf (p .records) }, answered, refl, refl), w)
 
-pub page-done : (line : List ℕ) (start : ℕ) (gs : List ℕ) → goalsIn (wordsOf (drop start line)) ≡ some gs
-    → (number : ℕ) {s : Session} {entry exit : List ℕ} {r : Answer} → Writes (CommandDone s (callBook (page gs))) entry exit r
+pub page-done : (line : List ℕ) (start : ℕ) (q : GoalList) → pageIn (wordsOf (drop start line)) ≡ some q
+    → (number : ℕ) {s : Session} {entry exit : List ℕ} {r : Answer} → Writes (CommandDone s (callBook (page (q .author) (q .goals)))) entry exit r
     → Writes (LineDone s number (meaning line (Page start))) entry exit r
-page-done line start gs e number {s} {entry} {exit} {r} w = subst (λ (o : Option (List ℕ)). Writes (LineDone s number (pageOf o)) entry exit r) (sym e) w
+page-done line start q e number {s} {entry} {exit} {r} w = subst (λ (o : Option GoalList). Writes (LineDone s number (pageOf o)) entry exit r) (sym e) w
 
 -- The call of what is kept of a line is known, and was made.
 module _ {s : Session} {number : ℕ} {p : Pending} {entry exit : List ℕ} (buffer : List ℕ) (call known : Call) (n room : ℕ) (r : Answer)

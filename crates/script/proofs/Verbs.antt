@@ -9,9 +9,9 @@ use Rattle.atoms.proofs.Truth.{T-left, T-right, T-false, true-T, by-cond}
 use Rattle.text.specs.Text.{ascii}
 use Rattle.script.specs.Command.{same, verbOf}
 use Rattle.script.specs.declared.reading.Verb.{Verb}
-use Rattle.script.specs.declared.reading.Verb.the-variants.{Open, Text, Flat, Implication, Ask, Page, Mark, Return, Length, Sheet, Check, Other}
+use Rattle.script.specs.declared.reading.Verb.the-variants.{Open, Text, Flat, Implication, Ask, Page, Mark, Return, Length, Sheet, Check, Mean, Other}
 
-same-is : (l m : List ℕ) → T (same l m) → l ≡ m
+pub same-is : (l m : List ℕ) → T (same l m) → l ≡ m
 unfolding same
 same-is [] [] t = refl
 same-is [] (y ∷ m) t = absurd t
@@ -35,6 +35,7 @@ Named w Return = w ≡ ascii "return"
 Named w Length = w ≡ ascii "length"
 Named w Sheet = w ≡ ascii "sheet"
 Named w Check = w ≡ ascii "check"
+Named w Mean = w ≡ ascii "mean"
 Named w Other = Unit {0}
 
 module _ (w : List ℕ) where
@@ -49,4 +50,5 @@ module _ (w : List ℕ) where
       (either _ _ _ (λ e. e)
       (either _ _ _ (λ e. e)
       (either _ _ _ (λ e. e)
-      (either _ _ _ (λ e. e) (either _ _ _ (λ e. e) (either _ _ _ (λ e. e) (either _ _ _ (λ e. e) (either _ _ _ (λ e. e) (either _ _ _ (λ e. e) tt))))))))))
+      (either _ _ _ (λ e. e)
+      (either _ _ _ (λ e. e) (either _ _ _ (λ e. e) (either _ _ _ (λ e. e) (either _ _ _ (λ e. e) (either _ _ _ (λ e. e) (either _ _ _ (λ e. e) tt)))))))))))

@@ -7,7 +7,7 @@ use lib.Dec.{eqb}
 use lib.ListN.{take}
 use Rattle.ipl.specs.Book.{Call, add, question, setMark, returnTo, page}
 use Rattle.prover.specs.InRange.{inRange}
-use Rattle.prover.specs.Calls.{Opened, Added, Asked, MarkSet, MarkReturned}
+use Rattle.prover.specs.Calls.{Opened, Added, Asked, MarkSet, MarkReturned, meanTold}
 use Rattle.prover.specs.State.{worldsOf}
 use Rattle.prover.specs.Page.{goalsOf, PageAnswered}
 use Rattle.prover.specs.Demand.{PageReturned}
@@ -28,10 +28,10 @@ use Rattle.text.specs.Output.{Appends}
 use Rattle.judgement.specs.Report.{checkReport}
 use Rattle.certificate.specs.Format.{each}
 use Rattle.report.specs.Report.{worldLine, textRefusal, reportBy}
-use Rattle.script.specs.Command.{Command, openSession, readText, callBook, tellLength, writeSheet, checkSheet, Line, silent, command, noCall}
+use Rattle.script.specs.Command.{Command, openSession, readText, callBook, tellLength, writeSheet, checkSheet, tellMean, Line, silent, command, noCall}
 use Rattle.script.specs.declared.answers.Answer.{Answer}
 use Rattle.script.specs.Reading.{goalRoom}
-use Rattle.script.specs.State.{refusedLine, changedLine, goalLine, lengthLine, sheetLine, figuredLine, noCallLine}
+use Rattle.script.specs.State.{refusedLine, changedLine, goalLine, lengthLine, sheetLine, meanLine, figuredLine, noCallLine}
 
 -- What is printed of the answers of the calls.
 abbrev pub clausifiedLine : ℕ → ℕ → ℕ → List ℕ
@@ -67,10 +67,10 @@ abbrev pub CallDone : Session → Call → Session → List ℕ → Type 0
 CallDone s (add a) after printed = ChangeDone (Added s a) after printed
 CallDone s (setMark j) after printed = ChangeDone (MarkSet s j) after printed
 CallDone s (returnTo j) after printed = ChangeDone (MarkReturned s j) after printed
-CallDone s (page gs) after printed =
-    (xs : List GoalRecord) × (goalsOf xs ≡ take goalRoom gs) × (r : PageReturned) × PageAnswered s xs (r .records) (r .changed)
+CallDone s (page a gs) after printed =
+    (xs : List GoalRecord) × (goalsOf xs ≡ take goalRoom gs) × (r : PageReturned) × PageAnswered s a xs (r .records) (r .changed)
     × (after ≡ r .changed .session) × (printed ≡ pageLines (r .changed .refusal) (r .records))
-CallDone s (question g) after printed = (r : Answered) × Asked s g r × (after ≡ r .session) × (printed ≡ reportBy (r .verdict) (r .session))
+CallDone s (question a g) after printed = (r : Answered) × Asked s a g r × (after ≡ r .session) × (printed ≡ reportBy (r .verdict) (r .session) a)
 
 abbrev pub CommandDone : Session → Command → Session → List ℕ → Type 0
 CommandDone s (openSession n) after printed = ChangeDone (Opened n) after printed
@@ -79,6 +79,7 @@ CommandDone s (callBook c) after printed = CallDone s c after printed
 CommandDone s tellLength after printed = (after ≡ s) × (printed ≡ lengthLine (lengthTold s))
 CommandDone s writeSheet after printed = (after ≡ s) × (printed ≡ heldLine s)
 CommandDone s (checkSheet bytes) after printed = (after ≡ s) × (printed ≡ checkReport (sheets.judge bytes))
+CommandDone s (tellMean a) after printed = (after ≡ s) × (printed ≡ meanLine (meanTold s a))
 
 -- "A line that is no call .. changes nothing."
 abbrev pub LineDone : Session → ℕ → Line → Session → List ℕ → Type 0

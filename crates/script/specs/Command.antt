@@ -7,12 +7,13 @@ use lib.Dec.{eqb, leb}
 use lib.ListN.{length, drop}
 use Rattle.atoms.specs.Sets.{limit}
 use Rattle.ipl.specs.Lists.{all}
+use Rattle.ipl.specs.Authors.{program}
 use Rattle.ipl.specs.Book.{addFlat, addImplication, Call, add, question, setMark, returnTo, page}
 use Rattle.text.specs.Text.{ascii}
 use Rattle.script.specs.Words.{space, wordsOf, unindented}
 use Rattle.script.specs.Numbers.{numberBelow, bytesIn}
 use Rattle.script.specs.declared.reading.Verb.{Verb}
-use Rattle.script.specs.declared.reading.Verb.the-variants.{Open, Text, Flat, Implication, Ask, Page, Mark, Return, Length, Sheet, Check, Other}
+use Rattle.script.specs.declared.reading.Verb.the-variants.{Open, Text, Flat, Implication, Ask, Page, Mark, Return, Length, Sheet, Check, Mean, Other}
 
 -- What a line asks for: the calls of the book, and those beside them.
 pub data Command : Type 0 where
@@ -22,6 +23,7 @@ pub data Command : Type 0 where
   tellLength : Command
   writeSheet : Command
   checkSheet : List ℕ → Command
+  tellMean : ℕ → Command
 
 -- A line that prints nothing; a call; or a line that is neither.
 pub data Line : Type 0 where
@@ -47,7 +49,8 @@ verbOf w =
     (cond (same w (ascii "page")) Page
     (cond (same w (ascii "mark")) Mark
     (cond (same w (ascii "return")) Return
-    (cond (same w (ascii "length")) Length (cond (same w (ascii "sheet")) Sheet (cond (same w (ascii "check")) Check Other))))))))))
+    (cond (same w (ascii "length")) Length
+    (cond (same w (ascii "sheet")) Sheet (cond (same w (ascii "check")) Check (cond (same w (ascii "mean")) Mean Other)))))))))))
 
 -- "One over 255 where a byte belongs, or a set over 2^64 - 1, is no number."
 abbrev pub byteIn : List ℕ → Option ℕ
@@ -68,10 +71,38 @@ abbrev pub end : Command → List (List ℕ) → Option Command
 end c [] = some c
 end c (w ∷ ws) = none
 
--- "Any number of goals may stand in a line."
-abbrev pub goalsIn : List (List ℕ) → Option (List ℕ)
-goalsIn [] = some []
-goalsIn (w ∷ ws) = bind (byteIn w) (λ g. Option·map (λ gs. g ∷ gs) (goalsIn ws))
+-- One argument, which is a byte.
+abbrev pub onlyByte : List (List ℕ) → Option ℕ
+onlyByte [] = none
+onlyByte (w ∷ []) = byteIn w
+onlyByte (w ∷ v ∷ ws) = none
+
+-- "`by A`" at the line's end; "author 0 without `by`".
+abbrev pub authorIn : List (List ℕ) → Option ℕ
+authorIn [] = some program
+authorIn (w ∷ ws) = cond (same w (ascii "by")) (onlyByte ws) none
+
+-- "Any number of goals may stand in a line", and then the author.
+pub record GoalList : Type 0 where
+  pub author : ℕ
+  pub goals : List ℕ
+
+-- These goals and their author, if there is one.
+abbrev pub authored : List ℕ → Option ℕ → Option GoalList
+authored gs o = Option·map (λ a. record { author = a; goals = gs }) o
+
+-- A goal before the others.
+abbrev pub oneMore : ℕ → Option GoalList → Option GoalList
+oneMore g o = Option·map (λ p. record { author = p .author; goals = g ∷ p .goals }) o
+
+-- A word that is a goal, and further ones; or the last words, which are the author.
+abbrev pub goalOr : Option ℕ → Option GoalList → Option GoalList → Option GoalList
+goalOr (some g) further last = oneMore g further
+goalOr none further last = last
+
+abbrev pub pageIn : List (List ℕ) → Option GoalList
+pageIn [] = authored [] (authorIn [])
+pageIn (w ∷ ws) = goalOr (byteIn w) (pageIn ws) (authored [] (authorIn (w ∷ ws)))
 
 -- "None at all is the empty sheet."
 abbrev pub sheetArgument : List (List ℕ) → Option Command
@@ -80,19 +111,20 @@ sheetArgument (w ∷ ws) = bind (bytesIn w) (λ bytes. end (checkSheet bytes) ws
 
 -- By the first word: what follows it in the line, and the words there.
 abbrev pub commandBy : Verb → List ℕ → List (List ℕ) → Option Command
-commandBy Open rest ws = argument byteIn (λ n. end (openSession n)) ws
+commandBy Open rest ws = Option·map openSession (onlyByte ws)
 -- "All after the first space behind `text`, as it stands, to the line's end; `text` alone is the empty text."
 commandBy Text rest ws = some (readText (drop 1 rest))
 commandBy Flat rest ws = argument setIn (λ left. argument setIn (λ right. end (callBook (add (addFlat (record { left = left; right = right })))))) ws
 commandBy Implication rest ws =
     argument byteIn (λ a. argument byteIn (λ b. argument byteIn (λ c. end (callBook (add (addImplication (record { a = a; b = b; c = c }))))))) ws
-commandBy Ask rest ws = argument byteIn (λ g. end (callBook (question g))) ws
-commandBy Page rest ws = Option·map (λ gs. callBook (page gs)) (goalsIn ws)
-commandBy Mark rest ws = argument byteIn (λ j. end (callBook (setMark j))) ws
-commandBy Return rest ws = argument byteIn (λ j. end (callBook (returnTo j))) ws
+commandBy Ask rest ws = argument byteIn (λ g further. Option·map (λ a. callBook (question a g)) (authorIn further)) ws
+commandBy Page rest ws = Option·map (λ p. callBook (page (p .author) (p .goals))) (pageIn ws)
+commandBy Mark rest ws = Option·map (λ j. callBook (setMark j)) (onlyByte ws)
+commandBy Return rest ws = Option·map (λ j. callBook (returnTo j)) (onlyByte ws)
 commandBy Length rest ws = end tellLength ws
 commandBy Sheet rest ws = end writeSheet ws
 commandBy Check rest ws = sheetArgument ws
+commandBy Mean rest ws = Option·map tellMean (onlyByte ws)
 commandBy Other rest ws = none
 
 abbrev pub commandFrom : List ℕ → List (List ℕ) → Option Command

@@ -1,5 +1,5 @@
 -- What the code says by places in a line: where a word stands, and the arguments that are read from there on.
-use mathlib.Core.Bool.{cond, _&&_}
+use mathlib.Core.Bool.{Bool, true, false, cond, _&&_}
 use mathlib.Core.List.{List, [], _∷_}
 use mathlib.Core.Option.{Option, none, some}
 use mathlib.Core.Path.{_≡_}
@@ -9,7 +9,6 @@ use lib.ListN.{length, take, drop}
 use Rattle.atoms.specs.Words.{num}
 use Rattle.script.specs.Words.{wordsOf, unindented}
 use Rattle.script.specs.Numbers.{isDigit}
-use Rattle.script.specs.Command.{Command, argument}
 use Rattle.script.specs.declared.words.Word.{Word}
 use Rattle.script.specs.declared.numbers.Byte.{Byte}
 use Rattle.script.specs.declared.numbers.Byte.the-variants as byte
@@ -68,16 +67,27 @@ abbrev pub setTaken : SetArgument → Option Taken
 setTaken (setArgument.Is s end) = some (record { value = num s; end = end })
 setTaken setArgument.None = none
 
--- What is made of an argument and the words behind it.
-abbrev pub furtherFrom : List ℕ → (ℕ → List (List ℕ) → Option Command) → Option Taken → Option Command
-furtherFrom line further none = none
-furtherFrom line further (some t) = further (t .value) (wordsOf (drop (t .end) line))
+-- The value of the first word; none where it has none, and where there is no word.
+abbrev pub firstOf : (List ℕ → Option ℕ) → List (List ℕ) → Option ℕ
+firstOf number [] = none
+firstOf number (w ∷ ws) = number w
 
-abbrev pub EndsInside : List ℕ → Option Taken → Type 0
-EndsInside line none = Unit {0}
-EndsInside line (some t) = t .end ≤ length line
+-- The first word from a place on is the argument t.
+pub record IsTaken (number : List ℕ → Option ℕ) (line : List ℕ) (from : ℕ) (t : Taken) : Type 0 where
+  pub word : List ℕ
+  pub words : wordsOf (drop from line) ≡ word ∷ wordsOf (drop (t .end) line)
+  pub is : number word ≡ some (t .value)
+  pub inside : t .end ≤ length line
 
--- The first word from a place on is such an argument.
+-- The same, or it is no such argument.
+abbrev pub TakenAs : (List ℕ → Option ℕ) → List ℕ → ℕ → Option Taken → Type 0
+TakenAs number line from none = firstOf number (wordsOf (drop from line)) ≡ none
+TakenAs number line from (some t) = IsTaken number line from t
+
 pub record Takes (number : List ℕ → Option ℕ) (line : List ℕ) (from : ℕ) (r : Option Taken) : Type 0 where
-  pub is : (further : ℕ → List (List ℕ) → Option Command) → argument number further (wordsOf (drop from line)) ≡ furtherFrom line further r
-  pub inside : EndsInside line r
+  pub is : TakenAs number line from r
+
+-- Whether no word follows.
+abbrev pub noWord : List (List ℕ) → Bool
+noWord [] = true
+noWord (w ∷ ws) = false

@@ -1,5 +1,5 @@
 -- The contract of the reading of a line.
-use mathlib.Core.Bool.{Bool, true, false, cond}
+use mathlib.Core.Bool.{true, false}
 use mathlib.Core.List.{List}
 use mathlib.Core.Option.{Option, none, some, Option·map}
 use mathlib.Core.Path.{_≡_}
@@ -10,10 +10,9 @@ use Rattle.ipl.specs.Book.{addFlat, addImplication, add, question, setMark, ret
 use Rattle.prover.specs.Calls.{flatOf}
 use Rattle.script.specs.Numbers.{paired}
 use Rattle.script.specs.Words.{wordsOf}
-use Rattle.script.specs.Command.{Command, Line, silent, command, noCall, openSession, readText, callBook, tellLength, writeSheet, checkSheet}
-use Rattle.script.specs.Command.{byteIn, argument, end, goalsIn, commandBy, orNone, lineOf}
-use Rattle.script.specs.Places.{between, byteOf}
-use Rattle.script.specs.declared.numbers.Byte.{Byte}
+use Rattle.script.specs.Command.{Command, Line, silent, command, noCall, openSession, readText, callBook, tellLength, writeSheet, checkSheet, tellMean}
+use Rattle.script.specs.Command.{end, GoalList, pageIn, commandBy, orNone, lineOf}
+use Rattle.script.specs.Places.{between}
 use Rattle.script.specs.declared.reading.Goals.{Goals}
 use Rattle.script.specs.declared.reading.Verb.{Verb}
 use Rattle.script.specs.declared.reading.Call.{Call}
@@ -30,13 +29,13 @@ pub record GoalsAre (gs : List ℕ) (t : Goals) : Type 0 where
   pub size : t .count ≡ min (length gs) goalRoom
   pub first : take (t .count) (t .rows) ≡ take goalRoom gs
 
--- Every word is a goal, and these are they; or some word is none.
-abbrev pub GoalsRead : Option (List ℕ) → Goals → Type 0
+-- The words are goals and their author, and these are they; or they are not.
+abbrev pub GoalsRead : Option GoalList → Goals → Type 0
 GoalsRead none t = t .complete ≡ false
-GoalsRead (some gs) t = GoalsAre gs t
+GoalsRead (some p) t = GoalsAre (p .goals) t × (t .author ≡ p .author)
 
-abbrev pub pageOf : Option (List ℕ) → Line
-pageOf gs = orNone (Option·map (λ gs. callBook (page gs)) gs)
+abbrev pub pageOf : Option GoalList → Line
+pageOf o = orNone (Option·map (λ p. callBook (page (p .author) (p .goals))) o)
 
 -- What a value of the code says of a line: a text starts at a place, a sheet's digits stand between two places.
 abbrev pub meaning : List ℕ → Call → Line
@@ -46,13 +45,14 @@ meaning line (code.Open n) = command (openSession n)
 meaning line (code.Text start) = command (readText (drop start line))
 meaning line (code.Flat left right) = command (callBook (add (addFlat (flatOf left right))))
 meaning line (code.Implication a b c) = command (callBook (add (addImplication (record { a = a; b = b; c = c }))))
-meaning line (code.Ask g) = command (callBook (question g))
-meaning line (code.Page start) = pageOf (goalsIn (wordsOf (drop start line)))
+meaning line (code.Ask a g) = command (callBook (question a g))
+meaning line (code.Page start) = pageOf (pageIn (wordsOf (drop start line)))
 meaning line (code.Mark j) = command (callBook (setMark j))
 meaning line (code.Return j) = command (callBook (returnTo j))
 meaning line code.Length = command tellLength
 meaning line code.Sheet = command writeSheet
 meaning line (code.Check start end) = command (checkSheet (paired (between start end line)))
+meaning line (code.Mean a) = command (tellMean a)
 
 -- The places are in the line.
 abbrev pub Inside : List ℕ → Call → Type 0
@@ -62,13 +62,14 @@ Inside line (code.Open n) = Unit {0}
 Inside line (code.Text start) = start ≤ length line
 Inside line (code.Flat left right) = Unit {0}
 Inside line (code.Implication a b c) = Unit {0}
-Inside line (code.Ask g) = Unit {0}
-Inside line (code.Page start) = (start ≤ length line) × ((gs : List ℕ) × (goalsIn (wordsOf (drop start line)) ≡ some gs))
+Inside line (code.Ask a g) = Unit {0}
+Inside line (code.Page start) = (start ≤ length line) × ((p : GoalList) × (pageIn (wordsOf (drop start line)) ≡ some p))
 Inside line (code.Mark j) = Unit {0}
 Inside line (code.Return j) = Unit {0}
 Inside line code.Length = Unit {0}
 Inside line code.Sheet = Unit {0}
 Inside line (code.Check start end) = (start ≤ end) × (end ≤ length line)
+Inside line (code.Mean a) = Unit {0}
 
 -- The calls that need large tables are calls.
 abbrev pub asCall : Large → Call
@@ -88,14 +89,6 @@ ReadAs line r = Means line (lineOf line) r
 -- The same of a call by its verb, whose word ends at a place.
 abbrev pub Arguments : Verb → List ℕ → ℕ → Call → Type 0
 Arguments verb line from r = Means line (orNone (commandBy verb (drop from line) (wordsOf (drop from line)))) r
-
--- The only argument is this byte, or there is no such argument.
-pub record OneByte (line : List ℕ) (from : ℕ) (r : Byte) : Type 0 where
-  pub is : (call : ℕ → Command) → argument byteIn (λ x. end (call x)) (wordsOf (drop from line)) ≡ Option·map call (byteOf r)
-
--- Whether no word follows.
-pub record IsLast (line : List ℕ) (from : ℕ) (r : Bool) : Type 0 where
-  pub is : (c : Command) → end c (wordsOf (drop from line)) ≡ cond r (some c) none
 
 -- A call is complete where no word follows.
 pub record Completes (line : List ℕ) (from : ℕ) (call r : Call) : Type 0 where

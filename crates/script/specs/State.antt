@@ -8,8 +8,13 @@ use lib.ListN.{length}
 use Rattle.ipl.specs.Search.{Outcome, valid, refuted, refused, unfinished}
 use Rattle.ipl.specs.Book as B
 use Rattle.ipl.specs.Page.{Entry, searched, refutedBy}
-use Rattle.ipl.specs.Book.{Book, Call, add, question, setMark, returnTo, page, opened, openRefusal, refusal, answer, entries}
-use Rattle.prover.specs.Demand.{questionsAfter, pageTotal}
+use Rattle.ipl.specs.Book.{Book, Call, add, question, setMark, returnTo, page, opened, openRefusal, refusal, answerTo, entries}
+use Rattle.ipl.specs.Work.{decidedBy}
+use Rattle.prover.specs.Work.{workAt, noneDone, withAll}
+use Rattle.prover.specs.Calls.{meanRefusal, meanBy}
+use Rattle.prover.specs.declared.Work.{Work}
+use Rattle.prover.specs.declared.PerVerdict.{PerVerdict}
+use Rattle.prover.specs.declared.PerVerdict.the-variants as per-verdict
 use Rattle.syntax.specs.Judge as text
 use Rattle.clausify.specs.Naming.{goalOf}
 use Rattle.clausify.specs.Demand.{bookOf}
@@ -26,35 +31,29 @@ use Rattle.judgement.specs.Report.{checkReport}
 use Rattle.certificate.specs.Format.{each}
 use Rattle.report.specs.Report.{worldLine, textRefusal}
 use Rattle.report.specs.Printed.{printedEnd}
-use Rattle.script.specs.Command.{Command, openSession, readText, callBook, tellLength, writeSheet, checkSheet, Line, silent, command, noCall}
+use Rattle.script.specs.Command.{Command, openSession, readText, callBook, tellLength, writeSheet, checkSheet, tellMean, Line, silent, command, noCall}
 
--- The book, the total of questions, and the problem and answer of the verdict held.
+-- The book, the work of the authors, and the problem and answer of the verdict held.
 pub record State : Type 0 where
   pub book : Book
-  pub questions : ℕ
+  pub work : List Work
   pub answered : Option Certificate
 
 -- A new session.
 abbrev pub fresh : Book → State
-fresh k = record { book = k; questions = 0; answered = none }
+fresh k = record { book = k; work = noneDone; answered = none }
 
 -- ---- what a call makes of it
-
--- "Only what is asked is counted."
-abbrev pub totalFor : State → Call → ℕ
-totalFor σ (add a) = σ .questions
-totalFor σ (question g) = questionsAfter (σ .questions) (answer (σ .book) g)
-totalFor σ (setMark j) = σ .questions
-totalFor σ (returnTo j) = σ .questions
-totalFor σ (page gs) = cond (eqb (refusal (σ .book) (page gs)) 0) (pageTotal (σ .questions) (entries (σ .book) gs)) (σ .questions)
 
 abbrev pub next : State → Command → State
 next σ (openSession n) = fresh (opened n)
 next σ (readText s) = fresh (bookOf (text.judge s))
-next σ (callBook c) = record { book = B.next (σ .book) c; questions = totalFor σ c; answered = keeps (σ .book) c (σ .answered) }
+next σ (callBook c) =
+    record { book = B.next (σ .book) c; work = withAll (σ .work) (decidedBy (σ .book) c); answered = keeps (σ .book) c (σ .answered) }
 next σ tellLength = σ
 next σ writeSheet = σ
 next σ (checkSheet bytes) = σ
+next σ (tellMean a) = σ
 
 -- ---- what it prints
 
@@ -87,6 +86,11 @@ abbrev pub sheetLine : Option Certificate → List ℕ
 sheetLine none = refusedLine 9
 sheetLine (some x) = digitsLine (bytesOf x)
 
+-- "`mean Q remainder R` or `refused K`."
+abbrev pub meanLine : PerVerdict → List ℕ
+meanLine (per-verdict.Questions whole remainder) = labelled "mean " whole ++ labelled " remainder " remainder ++ ascii "\n"
+meanLine (per-verdict.Refused number) = refusedLine number
+
 -- "`goal I valid S`, or `goal I refuted W` and its `world` lines, or `goal I refuted by J`, or `goal I refused K`."
 abbrev pub figuredLine : ℕ → String → ℕ → List ℕ
 figuredLine i label figure = labelled "goal " i ++ labelled label figure ++ ascii "\n"
@@ -108,10 +112,12 @@ entriesLines i (e ∷ es) = entryLines i e ++ entriesLines (suc i) es
 
 abbrev pub printedCall : State → Call → List ℕ
 printedCall σ (add a) = changedLine (refusal (σ .book) (add a))
-printedCall σ (question g) = printedEnd (σ .book .n) (σ .questions) (answer (σ .book) g)
+-- "The `questions` printed is that author's count."
+printedCall σ (question a g) = printedEnd (σ .book .n) (workAt (σ .work) a .questions) (answerTo (σ .book) a g)
 printedCall σ (setMark j) = changedLine (refusal (σ .book) (setMark j))
 printedCall σ (returnTo j) = changedLine (refusal (σ .book) (returnTo j))
-printedCall σ (page gs) = cond (eqb (refusal (σ .book) (page gs)) 0) (entriesLines 0 (entries (σ .book) gs)) (refusedLine (refusal (σ .book) (page gs)))
+printedCall σ (page a gs) =
+    cond (eqb (refusal (σ .book) (page a gs)) 0) (entriesLines 0 (entries (σ .book) gs)) (refusedLine (refusal (σ .book) (page a gs)))
 
 abbrev pub printedCommand : State → Command → List ℕ
 printedCommand σ (openSession n) = changedLine (openRefusal n)
@@ -120,6 +126,7 @@ printedCommand σ (callBook c) = printedCall σ c
 printedCommand σ tellLength = lengthLine (toldOf (σ .answered))
 printedCommand σ writeSheet = sheetLine (σ .answered)
 printedCommand σ (checkSheet bytes) = checkReport (sheets.judge bytes)
+printedCommand σ (tellMean a) = meanLine (meanBy (meanRefusal (σ .work) a) (σ .work) a)
 
 -- "`line K is no call`."
 abbrev pub noCallLine : ℕ → List ℕ

@@ -6,13 +6,13 @@ use super::pages;
 use super::reading::Call;
 use atoms::AtomSet;
 use certify::Length;
+use prover::PerVerdict;
 use prover::Session;
 ghost use mathlib.Core.List.{_++_};
-ghost use mathlib.Core.Path.{_≡_};
 ghost use Prim.Native.Nat.{ℕ, _≤_};
 ghost use lib.ListN.{length, drop};
 ghost use Rattle.ipl.specs.Book.{addFlat, addImplication, add, question, setMark, returnTo};
-ghost use Rattle.prover.specs.Calls.{flatOf};
+ghost use Rattle.prover.specs.Calls.{flatOf, meanTold};
 ghost use Rattle.certificate.specs.Judge.{judge};
 ghost use Rattle.certify.specs.Written.{lengthTold};
 ghost use Rattle.text.specs.Text.{decimal};
@@ -21,7 +21,7 @@ ghost use Rattle.judgement.specs.Report.{checkReport};
 ghost use Rattle.script.specs.Numbers.{paired};
 ghost use Rattle.script.specs.Command.{openSession, readText, callBook};
 ghost use Rattle.script.specs.Places.{between};
-ghost use Rattle.script.specs.State.{changedLine, lengthLine, digitsLine};
+ghost use Rattle.script.specs.State.{changedLine, lengthLine, meanLine, digitsLine};
 ghost use Rattle.script.specs.Reading.{meaning, Inside, asCall};
 ghost use Rattle.script.specs.Answer.{clausifiedLine, heldLine, CommandDone, LineDone, Writes, lineRoom};
 ghost use Rattle.script.specs.Pieces.{Answers};
@@ -74,6 +74,19 @@ fn write_length(s: Session, output: &mut [u8]) -> usize
     match certify::length_told(s) {
         Length::Bytes(size) => numbered(output, b"length ", size as u64, b"\n"),
         Length::Refused(number) => text::refusal(output, number, 0, false),
+    }
+}
+
+fn write_mean(s: Session, author: u8, output: &mut [u8]) -> usize
+    ensures { λ r. ⌜ Appends (meanLine (meanTold s author)) (now (output .entry)) 0 (now (output .exit)) r ⌝ }
+{
+    match prover::mean(s, author) {
+        PerVerdict::Questions(whole, remainder) => {
+            let a = text::figure(output, 0, b"mean ", whole as u64);
+            let b = text::figure(output, a, b" remainder ", remainder as u64);
+            text::word(output, b, b"\n")
+        }
+        PerVerdict::Refused(number) => text::refusal(output, number, 0, false),
     }
 }
 
@@ -152,15 +165,15 @@ fn add_implication(s: Session, a: u8, b: u8, c: u8, output: &mut [u8]) -> Answer
     }
 }
 
-fn ask(s: Session, goal: u8, output: &mut [u8]) -> Answer
-    ensures { λ r. ⌜ Writes (CommandDone s (callBook (question goal))) (now (output .entry)) (now (output .exit)) r ⌝ }
+fn ask(s: Session, author: u8, goal: u8, output: &mut [u8]) -> Answer
+    ensures { λ r. ⌜ Writes (CommandDone s (callBook (question author goal))) (now (output .entry)) (now (output .exit)) r ⌝ }
 {
-    let r = prover::ask(s, goal);
+    let r = prover::ask(s, author, goal);
     let session = r.session;
     let verdict = r.verdict;
     Answer {
         session,
-        length: report::write(output, verdict, session),
+        length: report::write(output, verdict, session, author),
     }
 }
 
@@ -224,7 +237,7 @@ pub fn answer_line(s: Session, number: u64, line: &[u8], p: Pending, output: &mu
         Call::Text(start) => answer_large(s, kept, Large::Text(start), output),
         Call::Flat(left, right) => add_flat(s, left, right, output),
         Call::Implication(a, b, c) => add_implication(s, a, b, c, output),
-        Call::Ask(goal) => ask(s, goal, output),
+        Call::Ask(author, goal) => ask(s, author, goal, output),
         Call::Page(start) => answer_large(s, kept, Large::Page(start), output),
         Call::Mark(number) => set_mark(s, number, output),
         Call::Return(number) => return_to(s, number, output),
@@ -234,5 +247,9 @@ pub fn answer_line(s: Session, number: u64, line: &[u8], p: Pending, output: &mu
         },
         Call::Sheet => answer_large(s, kept, Large::Sheet, output),
         Call::Check(start, end) => answer_large(s, kept, Large::Check(start, end), output),
+        Call::Mean(author) => Answer {
+            session: s,
+            length: write_mean(s, author, output),
+        },
     }
 }

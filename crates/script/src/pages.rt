@@ -7,16 +7,16 @@ use prover::GoalRecord;
 use prover::Records;
 use prover::Session;
 use prover::Worlds;
-ghost use mathlib.Core.List.{List, _++_};
+ghost use mathlib.Core.List.{_++_};
 ghost use mathlib.Core.Option.{some};
 ghost use mathlib.Core.Path.{_≡_};
-ghost use Prim.Native.Nat.{ℕ, _≤_};
+ghost use Prim.Native.Nat.{_≤_};
 ghost use lib.ListN.{length, take, drop};
 ghost use Rattle.ipl.specs.Book.{page};
 ghost use Rattle.prover.specs.Page.{goalsOf, recordsOf};
 ghost use Rattle.text.specs.Text.{ascii, decimal, labelled};
 ghost use Rattle.text.specs.Output.{Appends};
-ghost use Rattle.script.specs.Command.{callBook, goalsIn};
+ghost use Rattle.script.specs.Command.{callBook, GoalList, pageIn};
 ghost use Rattle.script.specs.Words.{wordsOf};
 ghost use Rattle.script.specs.Reading.{goalRoom};
 ghost use Rattle.script.specs.Answer.{recordLines, recordsLines, CommandDone, Writes};
@@ -89,14 +89,14 @@ fn write_records(records: Records, output: &mut [u8]) -> usize
     end
 }
 
-// The goals start at a place of the line.
+// The goals and their author start at a place of the line.
 pub fn page(s: Session, line: &[u8], start: usize, output: &mut [u8]) -> Answer
-    requires { ⌜ (start ≤ length (now line)) × ((gs : List ℕ) × (goalsIn (wordsOf (drop start (now line))) ≡ some gs)) ⌝ }
-    ensures { λ r. ⌜ ((gs : List ℕ) → goalsIn (wordsOf (drop start (now (line .entry)))) ≡ some gs
-        → Writes (CommandDone s (callBook (page gs))) (now (output .entry)) (now (output .exit)) r) ⌝ }
+    requires { ⌜ (start ≤ length (now line)) × ((p : GoalList) × (pageIn (wordsOf (drop start (now line))) ≡ some p)) ⌝ }
+    ensures { λ r. ⌜ ((p : GoalList) → pageIn (wordsOf (drop start (now (line .entry)))) ≡ some p
+        → Writes (CommandDone s (callBook (page (p .author) (p .goals)))) (now (output .entry)) (now (output .exit)) r) ⌝ }
 {
     let goals = reading::read_goals(line, start);
-    let r = prover::page_of(records_of(goals), s);
+    let r = prover::page_of(records_of(goals), s, goals.author);
     let changed = r.changed;
     let session = changed.session;
     if changed.refusal != 0 {

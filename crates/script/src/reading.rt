@@ -8,9 +8,9 @@ ghost use mathlib.Core.Path.{_≡_};
 ghost use Prim.Native.Nat.{ℕ, _≤_};
 ghost use lib.ListN.{length, drop};
 ghost use Rattle.script.specs.Words.{wordsOf};
-ghost use Rattle.script.specs.Command.{byteIn, setIn, goalsIn, verbOf};
-ghost use Rattle.script.specs.Places.{byteTaken, setTaken, Takes};
-ghost use Rattle.script.specs.Reading.{GoalsAre, GoalsRead, OneByte, IsLast, Completes, Arguments, ReadAs};
+ghost use Rattle.script.specs.Command.{byteIn, setIn, onlyByte, authorIn, authored, pageIn, verbOf};
+ghost use Rattle.script.specs.Places.{byteOf, byteTaken, setTaken, noWord, Takes};
+ghost use Rattle.script.specs.Reading.{GoalsAre, GoalsRead, Completes, Arguments, ReadAs};
 
 // The most bytes of a call, without the byte 10 that ends its line.
 pub const MOST_BYTES: usize = 32768;
@@ -27,17 +27,20 @@ pub enum Verb {
     Length,
     Sheet,
     Check,
+    Mean,
     Other,
 }
 
-// The goals of a page: whether every word is one, and as many of them as there are rows, one more than a page may have.
+// The goals of a page and its author: whether the words are that, and as many goals as there are rows, one more than a page may have.
 pub struct Goals {
     pub complete: bool,
+    pub author: u8,
     pub count: usize,
     pub rows: [u8; ipl::GOALS + 1],
 }
 
-// What a line asks for: a text and the goals of a page start at a place, a sheet's digits stand between two places.
+// What a line asks for: of a question the author stands first; a text and the goals of a page start at a place, a sheet's digits stand
+// between two places.
 pub enum Call {
     Silent,
     NoCall,
@@ -45,13 +48,14 @@ pub enum Call {
     Text(usize),
     Flat(AtomSet, AtomSet),
     Implication(u8, u8, u8),
-    Ask(u8),
+    Ask(u8, u8),
     Page(usize),
     Mark(u8),
     Return(u8),
     Length,
     Sheet,
     Check(usize, usize),
+    Mean(u8),
 }
 
 // An argument's value and the place behind it, or no such argument.
@@ -101,6 +105,9 @@ fn verb_of(word: &[u8]) -> Verb
     if check::same(word, b"check") {
         return Verb::Check;
     }
+    if check::same(word, b"mean") {
+        return Verb::Mean;
+    }
     Verb::Other
 }
 
@@ -139,7 +146,7 @@ fn set_argument(line: &[u8], from: usize) -> SetArgument
 // Whether no word follows.
 fn is_last(line: &[u8], from: usize) -> bool
     requires { ⌜ from ≤ length (now line) ⌝ }
-    ensures { λ r. ⌜ IsLast (now (line .entry)) from r ⌝ }
+    ensures { λ r. ⌜ r ≡ noWord (wordsOf (drop from (now (line .entry)))) ⌝ }
 {
     let word = words::next(line, from);
     word.start == word.end
@@ -160,7 +167,7 @@ fn if_last(line: &[u8], from: usize, call: Call) -> Call
 // The byte that is the only argument, if it is.
 fn one_byte(line: &[u8], from: usize) -> Byte
     requires { ⌜ from ≤ length (now line) ⌝ }
-    ensures { λ r. ⌜ OneByte (now (line .entry)) from r ⌝ }
+    ensures { λ r. ⌜ byteOf r ≡ onlyByte (wordsOf (drop from (now (line .entry)))) ⌝ }
 {
     let ByteArgument::Is(x, end) = byte_argument(line, from) else {
         return Byte::None;
@@ -222,12 +229,32 @@ fn implication(line: &[u8], from: usize) -> Call
     if_last(line, end, Call::Implication(a, b, c))
 }
 
+// The author whom the rest of the line names; the program, where there is no word.
+fn author(line: &[u8], from: usize) -> Byte
+    requires { ⌜ from ≤ length (now line) ⌝ }
+    ensures { λ r. ⌜ byteOf r ≡ authorIn (wordsOf (drop from (now (line .entry)))) ⌝ }
+{
+    let word = words::next(line, from);
+    let start = word.start;
+    let end = word.end;
+    if start == end {
+        return Byte::Is(ipl::PROGRAM);
+    }
+    if check::same(&line[start..end], b"by") {
+        return one_byte(line, end);
+    }
+    Byte::None
+}
+
 fn ask(line: &[u8], from: usize) -> Call
     requires { ⌜ from ≤ length (now line) ⌝ }
     ensures { λ r. ⌜ Arguments Verb.Ask (now (line .entry)) from r ⌝ }
 {
-    match one_byte(line, from) {
-        Byte::Is(goal) => Call::Ask(goal),
+    let ByteArgument::Is(goal, end) = byte_argument(line, from) else {
+        return Call::NoCall;
+    };
+    match author(line, end) {
+        Byte::Is(author) => Call::Ask(author, goal),
         Byte::None => Call::NoCall,
     }
 }
@@ -245,27 +272,38 @@ fn with_goal(t: Goals, goal: u8) -> Goals
     next
 }
 
-// The goals that start at a place of the line.
+// The goals with their author, if there is one.
+fn with_author(t: Goals, author: Byte) -> Goals
+    ensures { λ r. ⌜ ((gs : List ℕ) → GoalsAre gs t → GoalsRead (authored gs (byteOf author)) r) ⌝ }
+{
+    let mut next = t;
+    match author {
+        Byte::Is(a) => {
+            next.author = a;
+            next
+        }
+        Byte::None => {
+            next.complete = false;
+            next
+        }
+    }
+}
+
+// The goals that start at a place of the line, and their author.
 pub fn read_goals(line: &[u8], from: usize) -> Goals
     requires { ⌜ from ≤ length (now line) ⌝ }
-    ensures { λ r. ⌜ GoalsRead (goalsIn (wordsOf (drop from (now (line .entry))))) r ⌝ }
+    ensures { λ r. ⌜ GoalsRead (pageIn (wordsOf (drop from (now (line .entry))))) r ⌝ }
 {
     let mut goals = Goals {
         complete: true,
+        author: ipl::PROGRAM,
         count: 0,
         rows: [0; ipl::GOALS + 1],
     };
     let mut at = from;
     loop {
-        let word = words::next(line, at);
-        let start = word.start;
-        let end = word.end;
-        if start == end {
-            return goals;
-        }
-        let Byte::Is(goal) = numbers::byte_in(&line[start..end]) else {
-            goals.complete = false;
-            return goals;
+        let ByteArgument::Is(goal, end) = byte_argument(line, at) else {
+            return with_author(goals, author(line, at));
         };
         goals = with_goal(goals, goal);
         at = end;
@@ -317,6 +355,16 @@ fn check_sheet(line: &[u8], from: usize) -> Call
     Call::NoCall
 }
 
+fn mean(line: &[u8], from: usize) -> Call
+    requires { ⌜ from ≤ length (now line) ⌝ }
+    ensures { λ r. ⌜ Arguments Verb.Mean (now (line .entry)) from r ⌝ }
+{
+    match one_byte(line, from) {
+        Byte::Is(author) => Call::Mean(author),
+        Byte::None => Call::NoCall,
+    }
+}
+
 // The call of a verb whose word ends at a place.
 fn call_of(verb: Verb, line: &[u8], from: usize) -> Call
     requires { ⌜ from ≤ length (now line) ⌝ }
@@ -334,6 +382,7 @@ fn call_of(verb: Verb, line: &[u8], from: usize) -> Call
         Verb::Length => if_last(line, from, Call::Length),
         Verb::Sheet => if_last(line, from, Call::Sheet),
         Verb::Check => check_sheet(line, from),
+        Verb::Mean => mean(line, from),
         Verb::Other => Call::NoCall,
     }
 }

@@ -11,12 +11,15 @@ use native.Mathlib.Omega.{arith}
 use borrow.Author.Tests.{le-leb, lt-leb}
 use Rattle.atoms.proofs.Bytes.{put-nothing}
 use Rattle.ipl.specs.Search.{State, Outcome, valid, refuted, refused, unfinished}
+use Rattle.ipl.specs.Authors.{program}
 use Rattle.ipl.specs.Book.{Book, answer, stepsAfter}
 use Rattle.ipl.proofs.Book.{Reached, opened-reached}
 use Rattle.prover.specs.State.{book}
 use Rattle.prover.specs.InRange.{inRange}
+use Rattle.prover.specs.Work.{noneDone}
 use Rattle.prover.specs.Calls.{NothingHeld, Searched, AskedAs}
 use Rattle.prover.specs.Demand.{question}
+use Rattle.prover.specs.declared.Work.{Work}
 use Rattle.prover.specs.declared.Held.{Held}
 use Rattle.prover.specs.declared.Session.{Session}
 use Rattle.prover.specs.declared.Answered.{Answered}
@@ -56,24 +59,24 @@ gives (some x) before after l w = record {
 }
 
 -- ---- what the session of a text holds
-nothing-held : (total : ℕ) (s : Session) → NothingHeld total s → certificateHeld s (s .held) ≡ none
-nothing-held total s h = ap (certificateHeld s) (h .no-verdict)
+nothing-held : (W : List Work) (s : Session) → NothingHeld W s → certificateHeld s (s .held) ≡ none
+nothing-held W s h = ap (certificateHeld s) (h .no-verdict)
 
 module _ (k : Book) (g : ℕ) (s : Session) (same : book s ≡ k) (x : Answered) where
-  same-problem : (end : State) → Searched s end (x .session) → problemOfBook (book (x .session)) g ≡ problemOfBook k g
+  same-problem : (end : State) → Searched s program end (x .session) → problemOfBook (book (x .session)) g ≡ problemOfBook k g
   same-problem end a = ap (λ (k : Book). problemOfBook k g) (a .holds) ∙ ap (λ (k : Book). problemOfBook k g) same
 
-  held-sheet : (total : ℕ) → NothingHeld total s → (o : Outcome) → AskedAs s g o x → bytesIn (certificateHeld (x .session) (x .session .held)) ≡ sheetBytes k g (claimOfVerdict k o)
+  held-sheet : (W : List Work) → NothingHeld W s → (o : Outcome) → AskedAs s program g o x → bytesIn (certificateHeld (x .session) (x .session .held)) ≡ sheetBytes k g (claimOfVerdict k o)
   unfolding sheetBytes claimOfVerdict stepsAfter
-  held-sheet total n (valid end) a =
+  held-sheet W n (valid end) a =
       ap (λ (v : Held). bytesIn (certificateHeld (x .session) v)) (a .0 .kept)
       ∙ (λ i. encode (same-problem end (a .1) i) (claim.valid (ap (λ (k : Book). k .steps) (a .1 .holds) i)))
-  held-sheet total n (refuted end) a =
+  held-sheet W n (refuted end) a =
       ap (λ (v : Held). bytesIn (certificateHeld (x .session) v)) (a .0 .kept)
       ∙ (λ i. encode (same-problem end (a .1) i) (claim.refuted (a .0 .shows i)))
-  held-sheet total n (refused number) a =
-      ap (λ (s : Session). bytesIn (certificateHeld s (s .held))) (a .1) ∙ ap bytesIn (nothing-held total s n)
-  held-sheet total n unfinished a = absurd (a .0)
+  held-sheet W n (refused number) a =
+      ap (λ (s : Session). bytesIn (certificateHeld s (s .held))) (a .1) ∙ ap bytesIn (nothing-held W s n)
+  held-sheet W n unfinished a = absurd (a .0)
 
 -- ---- what is written of it
 
@@ -81,17 +84,17 @@ module _ (k : Book) (g : ℕ) (s : Session) (same : book s ≡ k) (x : Answered)
 settled-holds : (j : Judgement) (r : Settled) → SettledAs j r → (inRange (r .session) ≡ true) × (bytesIn (certificateHeld (r .session) (r .session .held)) ≡ sheetAs j)
 unfolding sheetAs
 settled-holds (judgement.refused number place) r h = (
-  nothing-in-range 0 (r .session) (subst Reached (sym (h .1 .clauses)) (opened-reached 1)) (h .1 .nothing),
-  ap bytesIn (nothing-held 0 (r .session) (h .1 .nothing)),
+  nothing-in-range noneDone (r .session) (subst Reached (sym (h .1 .clauses)) (opened-reached 1)) (h .1 .nothing),
+  ap bytesIn (nothing-held noneDone (r .session) (h .1 .nothing)),
 )
 settled-holds (judgement.accepted t) r (s, holds, asked) =
     let k = textBook t in
     let reached : Reached (book s) = subst Reached (sym (holds .clauses)) (text-reached t) in
-    let i = nothing-in-range 0 s reached (holds .nothing) in
+    let i = nothing-in-range noneDone s reached (holds .nothing) in
     let x : Answered = record { verdict = r .verdict; session = r .session } in
-    let a = asked-as s i reached (r .goal) x asked in (
-      call-kept s i reached (question (r .goal)) x asked .1,
-      held-sheet k (r .goal) s (holds .clauses) x 0 (holds .nothing) (answer k (r .goal)) (subst (λ (k : Book). AskedAs s (r .goal) (answer k (r .goal)) x) (holds .clauses) a)
+    let a = asked-as s i reached program (r .goal) x asked in (
+      call-kept s i reached (question program (r .goal)) x asked .1,
+      held-sheet k (r .goal) s (holds .clauses) x noneDone (holds .nothing) (answer k (r .goal)) (subst (λ (k : Book). AskedAs s program (r .goal) (answer k (r .goal)) x) (holds .clauses) a)
           ∙ ap (λ (g : ℕ). sheetBytes k g (claimOfVerdict k (answer k g))) (holds .goal),
     )
 

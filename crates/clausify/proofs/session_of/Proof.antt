@@ -12,13 +12,13 @@ write-requires c κs = (c .before .before .before .before .before .pre, row-coun
 
 returns : tie.Need-returns
 returns c =
-    let written = c .before .before .before .before .before .before in
+    let written = c .before .before .before .before .before .before .before in
     let fresh = written .before .before .before .before .«open» in
     let counted = written .before .before .before .before .before in
     let none = fresh .ensures .nothing in (
       session-holds _ _ (counted .before .pre) _ (counted .atom-count .ensures) (fresh .result .session) (fresh .ensures .holds) _ _ _
           (c .implications-of .result) (put-first _ _ _ _ _ _ (written .write .ensures)) (c .implications-of .ensures),
-      record { no-verdict = none .no-verdict; no-worlds = none .no-worlds; same-total = none .same-total },
+      record { no-verdict = none .no-verdict; no-worlds = none .no-worlds; work = none .work },
     )
 
 pub session-of-spec : {M : Type 1} → statement M

@@ -14,7 +14,7 @@ returns-2 c =
     let start = c .before .before .before in
     let records = start .args .records in
     let size : length (records .rows) ≡ goalTable + 1 = search (needs, sized) in
-    not-lent (start .args .s) records (c .list-refusal .result) (c .before .if1 .left) size (c .list-refusal .ensures)
+    not-lent (start .args .s) (start .args .author) records (c .list-refusal .result) (c .before .if1 .left) size (c .list-refusal .ensures)
 
 pub page-of-spec : {M : Type 1} → statement M
 page-of-spec =

@@ -47,7 +47,7 @@ pub fn damaged_sheets() -> Vec<u8> {
 
 /// Lines about as long as a line may be and far longer: calls, comments, blank ones and others.
 pub fn long_lines() -> Vec<u8> {
-    let forms: [(&[u8], u8, &[u8]); 14] = [
+    let forms: [(&[u8], u8, &[u8]); 18] = [
         (b"open ", b'0', b"7"),
         (b"open 7", b' ', b""),
         (b"", b' ', b"open 7"),
@@ -58,6 +58,10 @@ pub fn long_lines() -> Vec<u8> {
         (b"text ", b'~', b"p"),
         (b"check ", b'0', b""),
         (b"check 0", b'0', b""),
+        (b"ask 0", b' ', b"by 7"),
+        (b"page 0 by ", b'0', b"16"),
+        (b"page by 7", b' ', b""),
+        (b"mean ", b'0', b"7"),
         (b"length", b'h', b""),
         (b"", b'#', b"length"),
         (b"", b' ', b""),
@@ -74,12 +78,15 @@ pub fn long_lines() -> Vec<u8> {
     script
 }
 
-/// Pages of about as many goals as a page or a line may have; then one where at most one of 32 atoms lacks at a root, which finds
-/// a model of 256 worlds for each of them, and has each goal a second time.
+/// Pages of about as many goals as a page or a line may have, with an author and without; then one where at most one of 32 atoms
+/// lacks at a root, which finds a model of 256 worlds for each of them, and has each goal a second time.
 pub fn long_pages() -> Vec<u8> {
-    let most = (MOST_LINE_BYTES - "page".len()) / " 0".len();
-    let counts = [0, 1, 63, 64, 65, 255, 256, 257, 320, most - 1, most, most + 1];
-    let mut script = counts.map(|count| format!("page{}\nlength\n", " 0".repeat(count))).concat();
+    let mut script = String::new();
+    for by in ["", " by 15", " by 16"] {
+        let most = (MOST_LINE_BYTES - "page".len() - by.len()) / " 0".len();
+        let counts = [0, 1, 63, 64, 65, 255, 256, 257, 320, most - 1, most, most + 1];
+        script += &counts.map(|count| format!("page{}{by}\nlength\nmean 15\n", " 0".repeat(count))).concat();
+    }
     script += "open 40\n";
     for (a, b) in (0..32).flat_map(|b| (0..b).map(move |a| (a, b))) {
         script += &format!("flat 0 {}\n", single(a) | single(b));
@@ -88,6 +95,6 @@ pub fn long_pages() -> Vec<u8> {
         script += &format!("implication {atom} {FALSE} {FALSE}\n");
     }
     let goals: String = (0..32).map(|goal| format!(" {goal}")).collect();
-    script += &format!("page{goals}{goals}\nsheet\n");
+    script += &format!("page{goals}{goals}\nsheet\nmean 0\n");
     script.into_bytes()
 }

@@ -10,24 +10,31 @@ use std::iter;
 /// How often each kind of answer was met.
 pub type Tally = BTreeMap<String, usize>;
 
-/// All that a script can meet. Refusal 10 is of lent bytes, and a script lends none.
+/// All that a script can meet. Refusal 10 is of lent bytes, and a script lends none; three calls can meet 20.
 pub fn kinds() -> Vec<String> {
     const WORDS: [&str; 10] =
         ["nothing", "no call", "done", "goal", "length", "sheet", "valid", "refuted", "page", "empty page"];
     const ON_PAGES: [&str; 5] = ["valid", "refuted", "refuted by another", "refused 11", "refused 12"];
-    let refused = (1..=19).filter(|&number| number != 10).map(|number| format!("refused {number}"));
+    let refused = (1..=21).filter(|number| ![10, 20].contains(number)).map(|number| format!("refused {number}"));
+    let no_author = ["ask", "page", "mean"].map(|call| format!("{call} refused 20"));
     let accepted = ["accepted valid", "accepted refuted"].map(String::from);
+    let means = ["mean", "mean with a remainder"].map(String::from);
     let on_pages = ON_PAGES.map(|word| format!("on a page {word}"));
-    WORDS.map(String::from).into_iter().chain(accepted).chain(refused).chain(on_pages).collect()
+    let words = WORDS.map(String::from).into_iter();
+    words.chain(accepted).chain(means).chain(refused).chain(no_author).chain(on_pages).collect()
 }
 
 fn kind(line: &[u8], answer: &str) -> String {
+    let call = line.split(|&byte| byte == b' ').find(|word| !word.is_empty()).unwrap_or_default();
     let words: Vec<&str> = answer.split_ascii_whitespace().collect();
     match words[..] {
-        [] if line.trim_ascii() == b"page" => "empty page".into(),
+        [] if call == b"page" => "empty page".into(),
         [] => "nothing".into(),
         ["line", ..] => "no call".into(),
         ["goal", _, _, ..] => "page".into(),
+        ["mean", _, _, "0"] => "mean".into(),
+        ["mean", ..] => "mean with a remainder".into(),
+        ["refused", "20"] => format!("{} refused 20", call.escape_ascii()),
         [word @ ("accepted" | "refused"), which, ..] => format!("{word} {which}"),
         [word, ..] => word.into(),
     }
@@ -44,7 +51,7 @@ fn kinds_on_page(answer: &str) -> impl Iterator<Item = String> + '_ {
 }
 
 /// Writes a script line by line, and knows the session that the lines have made.
-pub struct Author<'a> {
+pub struct Writer<'a> {
     random: &'a mut Random,
     tally: &'a mut Tally,
     dialogue: Dialogue,
@@ -53,9 +60,9 @@ pub struct Author<'a> {
     sheet: Vec<u8>,
 }
 
-impl<'a> Author<'a> {
-    pub fn new(random: &'a mut Random, tally: &'a mut Tally) -> Author<'a> {
-        Author { random, tally, dialogue: Dialogue::start(), script: Vec::new(), sheet: Vec::new() }
+impl<'a> Writer<'a> {
+    pub fn new(random: &'a mut Random, tally: &'a mut Tally) -> Writer<'a> {
+        Writer { random, tally, dialogue: Dialogue::start(), script: Vec::new(), sheet: Vec::new() }
     }
 
     pub fn script(self) -> Vec<u8> {
@@ -99,6 +106,7 @@ impl<'a> Author<'a> {
             let line = self.clause_or(&["ask", "page", "mark", "return"]);
             self.write(line);
         }
+        self.means();
     }
 
     /// A clause; once in so many times one of these calls.
@@ -120,7 +128,7 @@ impl<'a> Author<'a> {
         let atoms = 1 + self.random.below(8);
         self.write(format!("open {atoms}"));
         for _ in 0..count {
-            let line = match self.random.below(14) {
+            let line = match self.random.below(15) {
                 0..=1 => self.mark("mark"),
                 2..=3 => self.mark("return"),
                 4..=5 => self.flat(),
@@ -128,12 +136,14 @@ impl<'a> Author<'a> {
                 8..=9 => self.question(),
                 10..=11 => self.page(),
                 12 => self.random.pick(&["length", "sheet"]).to_string(),
+                13 => self.mean(),
                 _ => format!("check {}", hexadecimal(&self.sheet)),
             };
             let answer = self.write(line);
             let needs_too_many = |line: &str| line.ends_with("refused 11") || line.ends_with("refused 12");
             assert!(!answer.lines().any(needs_too_many), "over {atoms} atoms: {answer}");
         }
+        self.means();
     }
 
     /// Pages on one session with choices between two atoms, so that models differ in their roots.
@@ -141,16 +151,18 @@ impl<'a> Author<'a> {
         let atoms = 3 + self.random.below(10);
         self.write(format!("open {atoms}"));
         for _ in 0..count {
-            let line = match self.random.below(14) {
+            let line = match self.random.below(15) {
                 0..=4 => format!("flat 0 {}", 1u64 << self.random.below(atoms) | 1 << self.random.below(atoms)),
                 5 => self.flat(),
                 6..=7 => self.implication(),
                 8..=11 => self.page(),
                 12 => self.random.pick(&["length", "sheet", "mark 0", "return 0"]).to_string(),
+                13 => self.mean(),
                 _ => self.question(),
             };
             self.write(line);
         }
+        self.means();
     }
 
     /// The double negations of so many atoms that the questions mostly need over 256 worlds.
@@ -162,6 +174,7 @@ impl<'a> Author<'a> {
         }
         let page = self.page();
         self.write(page);
+        self.means();
         self.calls(12, atoms, 20);
     }
 
@@ -180,8 +193,16 @@ impl<'a> Author<'a> {
         self.write(format!("flat {} {}", all_z | single(a), single(b)));
         self.write(format!("implication {a} {b} {c}"));
         self.write(format!("ask {c}"));
-        self.write(format!("page {c} 0 {b} {c} {FALSE}"));
+        self.write(format!("page {c} 0 {b} {c} {FALSE} by 1"));
+        self.means();
         self.calls(6, 33, 20);
+    }
+
+    /// Those of all authors, and of one that there is not.
+    fn means(&mut self) {
+        for author in 0..=16 {
+            self.write(format!("mean {author}"));
+        }
     }
 
     fn begin(&mut self, most_atoms: usize) {
@@ -211,15 +232,16 @@ impl<'a> Author<'a> {
         let without_ends = text.into_iter().filter(|&byte| byte != b'\n').collect();
         let answer = self.write([b"text ".to_vec(), without_ends].concat());
         let Some(goal) = answer.strip_prefix("goal ") else { return };
+        let by = self.by();
         match self.random.below(8) {
             0..=1 => return,
-            2..=3 => self.write(self.page_of_all()),
-            _ => self.write(format!("ask {}", goal.trim_end())),
+            2..=3 => self.write(self.page_of_all() + &by),
+            _ => self.write(format!("ask {}{by}", goal.trim_end())),
         };
     }
 
     fn line(&mut self) -> Vec<u8> {
-        match self.random.below(28) {
+        match self.random.below(30) {
             0..=5 => self.flat().into(),
             6..=9 => self.implication().into(),
             10..=14 => self.question().into(),
@@ -230,6 +252,7 @@ impl<'a> Author<'a> {
             21 => self.mark("mark").into(),
             22 => self.mark("return").into(),
             23 => self.page().into(),
+            24..=25 => self.mean().into(),
             _ => self.damaged_line(),
         }
     }
@@ -246,7 +269,7 @@ impl<'a> Author<'a> {
 
     fn question(&mut self) -> String {
         let goal = self.atom(5);
-        self.words("ask", &[goal])
+        self.words("ask", &[goal]) + &self.by()
     }
 
     /// Mostly few goals, seldom none or more than a page may have.
@@ -264,7 +287,7 @@ impl<'a> Author<'a> {
         if count > 0 && self.random.one_in(10) {
             goals[self.random.below(count)] = self.random.below(300) as u64;
         }
-        self.words("page", &goals)
+        self.words("page", &goals) + &self.by()
     }
 
     /// Every goal that the session has, which are too many where it has 64 atoms.
@@ -280,6 +303,36 @@ impl<'a> Author<'a> {
             0 => FALSE.into(),
             1..=3 if !before.is_empty() => *self.random.pick(before),
             _ => self.random.below(atoms) as u64,
+        }
+    }
+
+    /// Behind every second question or page its author, seldom named otherwise than it must be.
+    fn by(&mut self) -> String {
+        const OTHERWISE: [&str; 8] = [" by", " by 1 2", " by 256", " by x", " by by 1", " by 1 by 2", " 1 by", "by 1"];
+        match self.random.below(30) {
+            0 => self.random.pick(&OTHERWISE).to_string(),
+            1..=15 => {
+                let author = self.author();
+                self.words(" by", &[author])
+            }
+            _ => String::new(),
+        }
+    }
+
+    fn mean(&mut self) -> String {
+        if self.random.one_in(30) {
+            return self.random.pick(&["mean", "mean 1 2", "mean by 1", "mean x"]).to_string();
+        }
+        let author = self.author();
+        self.words("mean", &[author])
+    }
+
+    /// Mostly one of the first, seldom the last, the one after it or any number.
+    fn author(&mut self) -> u64 {
+        match self.random.below(20) {
+            0 => *self.random.pick(&[15, 16]),
+            1 => self.random.below(300) as u64,
+            _ => self.random.below(4) as u64,
         }
     }
 
@@ -336,12 +389,13 @@ impl<'a> Author<'a> {
     /// A line with a byte changed, put in or taken out, or its end cut off.
     fn damaged_line(&mut self) -> Vec<u8> {
         const BYTES: &[u8] = b" 0129aA#-\t\r\x00\x80\xff";
-        let mut line = match self.random.below(6) {
+        let mut line = match self.random.below(7) {
             0 => self.flat(),
             1 => self.implication(),
             2 => self.question(),
             3 => self.mark("mark"),
             4 => self.page(),
+            5 => self.mean(),
             _ => self.check(),
         }
         .into_bytes();

@@ -1,7 +1,7 @@
 //! The program `session`: what it answers to stored, generated and random scripts, and in a dialogue.
 
 use crate::generated_scripts::{damaged_sheets, every_byte, long_lines, long_pages, wrong_byte};
-use crate::random_scripts::{kinds, Author, Tally};
+use crate::random_scripts::{kinds, Tally, Writer};
 use crate::{fail, printed};
 use outside::program::{run, run_in_pieces, writes, Conversation, SESSION};
 use outside::random::Random;
@@ -72,22 +72,22 @@ impl Scripts {
     /// So many random scripts of each sort, which must meet every kind of answer.
     fn random(&mut self, random: &mut Random) {
         let mut tally = Tally::new();
-        let mut write = |times: usize, parts: &dyn Fn(&mut Author, usize)| {
+        let mut write = |times: usize, parts: &dyn Fn(&mut Writer, usize)| {
             for _ in 0..times {
                 let calls = 10 + random.below(391);
-                let mut author = Author::new(random, &mut tally);
-                parts(&mut author, calls);
-                self.answered("a random script", &author.script());
+                let mut writer = Writer::new(random, &mut tally);
+                parts(&mut writer, calls);
+                self.answered("a random script", &writer.script());
             }
         };
-        write(150, &|author, calls| author.calls(calls, 7, 50));
-        write(130, &|author, calls| author.calls(calls, 64, 25));
-        write(1_000, &|author, calls| author.marks(calls / 8));
-        write(300, &|author, calls| author.pages(calls / 8));
-        write(8, &|author, _| author.full_tables());
-        write(8, &|author, _| author.many_worlds());
-        write(2, &|author, _| author.many_steps());
-        write(1, &|author, _| author.calls(4_000, 10, 100));
+        write(150, &|writer, calls| writer.calls(calls, 7, 50));
+        write(130, &|writer, calls| writer.calls(calls, 64, 25));
+        write(1_000, &|writer, calls| writer.marks(calls / 8));
+        write(300, &|writer, calls| writer.pages(calls / 8));
+        write(8, &|writer, _| writer.full_tables());
+        write(8, &|writer, _| writer.many_worlds());
+        write(2, &|writer, _| writer.many_steps());
+        write(1, &|writer, _| writer.calls(4_000, 10, 100));
         for kind in kinds() {
             assert!(tally.contains_key(&kind), "no random script met: {kind}");
         }
@@ -120,9 +120,10 @@ impl Scripts {
 
     /// An answer waits for other lines that were read with its own, but not for a question, unless all that can be read at once was.
     fn written_together(&mut self) {
-        let questions = ["open 3\nflat 1 2\n", "ask 0\nlength\n", " ask 1\n\nimplication 0 1 2\n", "ask 2\n", "ask 0"];
+        let questions =
+            ["open 3\nflat 1 2\n", "ask 0\nlength\n", " ask 1\n\nimplication 0 1 2\n", "ask 2 by 3\nmean 3\n", "ask 0"];
         self.in_writes(&questions.map(str::to_owned));
-        let pages = ["open 3\nflat 0 3\n", "page 0 1\nlength\n", " page 2\n\nflat 1 2\n", "page 0"];
+        let pages = ["open 3\nflat 0 3\n", "page 0 1\nlength\n", " page 2\n\nflat 1 2\n", "page 0 by 3"];
         self.in_writes(&pages.map(str::to_owned));
         let ahead = "open 3\nask 0\nask 1\nlength\n";
         let full = format!("#{:1$}\n{ahead}", "", FULL - ahead.len() - 2);

@@ -6,7 +6,7 @@ use Rattle.prover.proofs.additions.with_clauses.Tie as tie
 
 returns : tie.Need-returns
 unfolding tabulate
-returns c = (refl, record { no-verdict = refl; no-worlds = refl; same-total = refl })
+returns c = (refl, record { no-verdict = refl; no-worlds = refl; work = refl })
 
 pub with-clauses-spec : {M : Type 1} → statement M
 with-clauses-spec = tie.close (tie.spec returns)

@@ -3,6 +3,7 @@ use mathlib.Core.Path.{ap, _∙_, subst}
 use Prim.Native.Nat.{_+_, _<_}
 use Rattle.ipl.specs.Marks.{markTable}
 use Rattle.prover.specs.State.{bookOf}
+use Rattle.prover.specs.Work.{worksOf}
 use Rattle.prover.specs.Calls.{NothingHeld}
 use Rattle.prover.specs.declared.Session.{Session}
 use borrow.Author.Needs.{needs}
@@ -40,7 +41,7 @@ returns c =
     let s = start .args .s in (
       c .with-clauses .ensures .0 ∙ ap (λ (u : Session). bookOf (u .n) (cutFlats s i) (cutImplications s i) (u .steps) (u .marks)) made
           ∙ book-returned s (start .args .number) (start .pre) i (at-place .place-of .ensures),
-      subst (λ (u : Session). NothingHeld (u .total) (c .with-clauses .result)) made (c .with-clauses .ensures .1),
+      subst (λ (u : Session). NothingHeld (worksOf (u .authors)) (c .with-clauses .result)) made (c .with-clauses .ensures .1),
     )
 
 pub returned-spec : {M : Type 1} → statement M

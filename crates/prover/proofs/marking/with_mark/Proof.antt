@@ -4,6 +4,7 @@ use mathlib.Core.Path.{sym, ap, _∙_}
 use Rattle.ipl.specs.Marks.{Mark, setLast}
 use Rattle.ipl.specs.Book.{markRefusal, taken}
 use Rattle.prover.specs.State.{flatsOf, implicationsOf, stepsOf, marksOf, book}
+use Rattle.prover.specs.Work.{worksOf}
 use Rattle.prover.specs.declared.Session.{Session}
 use Rattle.prover.proofs.Sessions.{few-marks}
 use Rattle.prover.proofs.Refusals.{number-zero}
@@ -29,7 +30,7 @@ returns c =
       record {
         same-verdict = ap (λ (u : Session). u .held) made;
         same-worlds = ap (λ (u : Session). u .worlds) made;
-        same-total = ap (λ (u : Session). u .total) made;
+        work = ap (λ (u : Session). worksOf (u .authors)) made;
       },
     )
 

@@ -9,14 +9,15 @@ use Rattle.prover.proofs.paging.answer.Tie as tie
 searched-requires : tie.Need-searched-requires
 searched-requires c κs =
     let looked = c .before .before in
-    (looked .before .pre .0, looked .before .pre .1, sym (looked .earliest .ensures) ∙ ap modelFound (c .enum-told .given .1))
+    (looked .before .pre, sym (looked .earliest .ensures) ∙ ap modelFound (c .enum-told .given .1))
 
 returns : tie.Need-returns
 returns c =
-    let told = c .before .before .before in
+    let counted = c .before .before in
+    let told = counted .before .before in
     let looked = told .before .before in
     answered-by-model (looked .before .args .p) (looked .before .args .r) _ _ _ (sym (ap modelFound (told .place .given .1)) ∙ looked .earliest .ensures)
-    (c .with-answer .ensures) (c .before .went-on .ensures)
+    (c .with-answer .ensures) (counted .counted .result) (counted .counted .ensures) (c .before .went-on .ensures)
 
 pub answer-spec : {M : Type 1} → statement M
 answer-spec =
@@ -24,6 +25,7 @@ answer-spec =
     (tie.spec
     (λ c κs. search needs)
     (λ c. search needs)
+    (λ c κs. c .before .before .before .before .pre .known)
     (λ c κs. search needs)
     (λ c κs. search needs)
     (λ c. search needs)

@@ -8,6 +8,7 @@ use Rattle.prover.proofs.paging.begin.Tie as tie
 returns : tie.Need-returns
 returns c = record {
   session = refl;
+  author = refl;
   no-model = refl;
   refused = c .before .list-refusal .ensures;
   number = rw (eq-eqb (c .before .list-refusal .result) 0 (c .if1 .taken));
@@ -18,6 +19,7 @@ returns c = record {
 returns-2 : tie.Need-returns-2
 returns-2 c = record {
   session = refl;
+  author = refl;
   no-model = refl;
   refused = c .before .list-refusal .ensures;
   number = rw (ne-eqb (c .before .list-refusal .result) 0 (c .if1 .left));

@@ -9,7 +9,7 @@ returns c =
     let found = c .before .before in
     let asked = found .before .before .before in
     let start = asked .before in
-    answered-by-search (start .args .p) (start .args .r) _ _ (asked .ask .result) (found .with-found .result) (start .pre .2) (asked .ask .ensures) (c .after-search .ensures)
+    answered-by-search (start .args .p) (start .args .r) _ _ (asked .ask .result) (found .with-found .result) (start .pre .1) (asked .ask .ensures) (c .after-search .ensures)
     (found .with-found .ensures .0) (found .with-found .ensures .1) (c .before .went-on .ensures)
 
 pub searched-spec : {M : Type 1} → statement M

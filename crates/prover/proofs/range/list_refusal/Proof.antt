@@ -1,5 +1,5 @@
--- 5, then 19.
-use borrow.Author.Tests.{le-leb, lt-leb, not-true, not-false}
+-- 5, 20, then 19.
+use borrow.Author.Tests.{le-leb, lt-leb, lt-ltb, le-ltb, not-true, not-false}
 use mathlib.Core.Bool.{true}
 use mathlib.Core.Path.{_≡_, sym, _∙_}
 use Rattle.prover.specs.InRange.{inRange}
@@ -14,10 +14,13 @@ returns : tie.Need-returns
 returns c = rw (sym (c .before .in-range .ensures) ∙ not-true _ (c .if1 .taken))
 
 returns-2 : tie.Need-returns-2
-returns-2 c = rw (session (c .before), le-leb _ _ (c .if2 .taken))
+returns-2 c = rw (session (c .before), le-ltb _ _ (c .if2 .taken))
 
 returns-3 : tie.Need-returns-3
-returns-3 c = rw (session (c .before), lt-leb _ _ (c .if2 .left))
+returns-3 c = let known = c .before in rw (session (known .before), lt-ltb _ _ (known .if2 .left), le-leb _ _ (c .if3 .taken))
+
+returns-4 : tie.Need-returns-4
+returns-4 c = let known = c .before in rw (session (known .before), lt-ltb _ _ (known .if2 .left), lt-leb _ _ (c .if3 .left))
 
 pub list-refusal-spec : {M : Type 1} → statement M
-list-refusal-spec = tie.close (tie.spec (λ c κs. search needs) returns returns-2 returns-3)
+list-refusal-spec = tie.close (tie.spec (λ c κs. search needs) returns returns-2 returns-3 returns-4)

@@ -8,32 +8,32 @@ use Rattle.prover.proofs.settling.conclude.Tie as tie
 add-questions : tie.Need-add-questions
 add-questions c =
     let s = c .before .before .before .before in
-    omega (arith, few-valid _ _ (s .args .end) (s .pre .ended) _ (c .before .before .end2 .given .1))
+    omega (arith, few-valid _ _ (s .args .end) (s .pre .1 .ended) _ (c .before .before .end2 .given .1))
 
 with-verdict-requires : tie.Need-with-verdict-requires
 with-verdict-requires c κs =
     let s = c .before .before .before .before in
-    omega (arith, few-valid _ _ (s .args .end) (s .pre .ended) _ (c .before .before .end2 .given .1))
+    (s .pre .0, omega (arith, few-valid _ _ (s .args .end) (s .pre .1 .ended) _ (c .before .before .end2 .given .1)))
 
 with-verdict-requires-2 : tie.Need-with-verdict-requires-2
 with-verdict-requires-2 c κs =
     let s = c .before .before .before in
-    omega (arith, few-refuted _ _ (s .args .end) (s .pre .ended) _ (c .before .end3 .given .1))
+    (s .pre .0, omega (arith, few-refuted _ _ (s .args .end) (s .pre .1 .ended) _ (c .before .end3 .given .1)))
 
 returns : tie.Need-returns
 returns c =
     let s = c .before .before .before in
-    full-asked (s .args .s) (s .args .goal) _ _ (s .args .end) (s .pre .ended) _ (c .before .end .given .1)
+    full-asked (s .args .s) (s .args .author) (s .args .goal) _ _ (s .args .end) (s .pre .1 .ended) _ (c .before .end .given .1)
 
 returns-2 : tie.Need-returns-2
 returns-2 c =
     let s = c .before .before .before .before .before in
-    valid-asked (s .args .s) (s .args .goal) _ _ (s .args .end) (s .pre .ended) _ (c .before .before .before .end2 .given .1) _ (c .with-verdict .ensures)
+    valid-asked (s .args .s) (s .args .author) (s .args .goal) _ _ (s .args .end) (s .pre .1 .ended) _ (c .before .before .before .end2 .given .1) _ (c .with-verdict .ensures)
 
 returns-3 : tie.Need-returns-3
 returns-3 c =
     let s = c .before .before .before .before in
-    refuted-asked (s .args .s) (s .args .goal) _ _ (s .args .end) (s .pre .ended) _ (c .before .before .end3 .given .1) _ (c .with-verdict2 .ensures)
+    refuted-asked (s .args .s) (s .args .author) (s .args .goal) _ _ (s .args .end) (s .pre .1 .ended) _ (c .before .before .end3 .given .1) _ (c .with-verdict2 .ensures)
 
 pub conclude-spec : {M : Type 1} → statement M
 conclude-spec =

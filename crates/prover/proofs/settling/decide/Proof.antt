@@ -1,31 +1,22 @@
 -- The tables are those of the session, and the search in them is the whole one.
-use mathlib.Core.Bool.{true}
-use mathlib.Core.Path.{_≡_}
-use Rattle.ipl.specs.Book.{goalRefusal}
-use Rattle.prover.specs.State.{book}
-use Rattle.prover.specs.InRange.{inRange}
-use Rattle.prover.proofs.Refusals.{number-zero}
 use Rattle.prover.proofs.Answers.{ended-whole}
 use Rattle.prover.proofs.Sessions.{usable, steps-fit, fresh}
 use borrow.Author.Needs.{needs}
 use Rattle.prover.proofs.settling.decide.Statement.{statement}
 use Rattle.prover.proofs.settling.decide.Tie as tie
 
-in-range : (c : tie.Start) → inRange (c .args .s) ≡ true
-in-range c = number-zero (c .args .s) (goalRefusal (book (c .args .s)) (c .args .goal)) (c .pre .unrefused) .0
-
 write-known-requires : tie.Need-write-known-requires
 write-known-requires c κs =
     let given = c .before .before .before .before .before .before .before .before .before .before in
-    steps-fit (given .args .s) (in-range given) _ _ (given .pre .left-rows) (given .pre .right-rows)
+    steps-fit (given .args .s) (given .pre .in-range) _ _ (given .pre .left-rows) (given .pre .right-rows)
 
 proceed-requires : tie.Need-proceed-requires
 proceed-requires c κs =
     let written = c .before .before .before .before .before .before .before .before .before in
     let given = written .before .before .before .before .before .before .before .before .before .before .before in
     let s = given .args .s in
-    let u = usable s (in-range given) in
-    (u, fresh s (in-range given) _ (given .args .goal) (given .pre) _ _ (written .write-known .ensures (s .n) u))
+    let u = usable s (given .pre .in-range) in
+    (u, fresh s (given .pre .in-range) _ (given .pre) _ _ (written .write-known .ensures (s .n) u))
 
 returns : tie.Need-returns
 returns c =
@@ -33,7 +24,7 @@ returns c =
     let written = searched .before .before .before .before .before .before .before .before .before .before in
     let given = written .before .before .before .before .before .before .before .before .before .before .before in
     let s = given .args .s in
-    ended-whole s (given .args .goal) _ _ _ _ (searched .proceed .result) (written .write-known .ensures (s .n) (usable s (in-range given)) .flat-rows)
+    ended-whole s (given .args .goal) _ _ _ _ (searched .proceed .result) (written .write-known .ensures (s .n) (usable s (given .pre .in-range)) .flat-rows)
     (given .pre .numbers) (given .pre .assumed) (searched .proceed .ensures)
 
 pub decide-spec : {M : Type 1} → statement M

@@ -82,7 +82,7 @@ returns-6 c =
 returns-7 : tie.Need-returns-7
 returns-7 c =
     let known = c .before .before .before .before .before in
-    made (known .before .before) (known .goal .given .1) (c .before .before .ask .ensures)
+    made (known .before .before) (known .author .given .1) (c .before .before .ask .ensures)
 
 returns-8 : tie.Need-returns-8
 returns-8 c =
@@ -116,6 +116,11 @@ returns-13 c =
     let known = c .before .before .before .before .before in
     let read = known .before .before in
     made read (known .start3 .given .1) (c .before .before .answer-large4 .ensures (read .before .before .before .before .before .before .args .number))
+
+returns-14 : tie.Need-returns-14
+returns-14 c =
+    let known = c .before .before .before .before .before in
+    made (known .before .before) (known .author2 .given .1) (_, (refl, refl), c .before .before .write-mean .ensures)
 
 pub answer-line-spec : {M : Type 1} → statement M
 answer-line-spec =
@@ -152,6 +157,8 @@ answer-line-spec =
     answer-large-requires-3
     (λ c. search needs)
     answer-large-requires-4
+    (λ c. search needs)
+    (λ c κs. search needs)
     returns
     (λ c. search needs)
     returns-2
@@ -176,4 +183,6 @@ answer-line-spec =
     (λ c. search needs)
     returns-12
     (λ c. search needs)
-    returns-13)
+    returns-13
+    (λ c. search needs)
+    returns-14)

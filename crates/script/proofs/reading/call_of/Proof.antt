@@ -38,10 +38,15 @@ returns-10 c = rw (c .before .enum-told10 .given .1) (finished _ (c .if-last2 .e
 returns-11 : tie.Need-returns-11
 returns-11 c = rw (c .before .enum-told11 .given .1) (c .check-sheet .ensures)
 
+returns-12 : tie.Need-returns-12
+returns-12 c = rw (c .before .enum-told12 .given .1) (c .mean .ensures)
+
 pub call-of-spec : {M : Type 1} → statement M
 call-of-spec =
     tie.close
     (tie.spec
+    (λ c. search needs)
+    (λ c κs. search needs)
     (λ c. search needs)
     (λ c κs. search needs)
     (λ c. search needs)
@@ -76,4 +81,5 @@ call-of-spec =
     returns-9
     returns-10
     returns-11
+    returns-12
     (λ c. search needs))

@@ -1,9 +1,10 @@
--- Goal after goal.
-use mathlib.Core.Path.{refl, sym, ap, _∙_}
+-- Goal after goal, and then the author.
+use mathlib.Core.Path.{refl, ap}
 use lib.ListN.{length, drop}
 use Rattle.script.specs.Words.{wordsOf}
-use Rattle.script.specs.Places.{byteOf}
-use Rattle.script.proofs.Goals.{Collected, none-collected, all-collected, fewer-words, no-goal, one-collected}
+use Rattle.script.specs.Places.{byteTaken}
+use Rattle.script.proofs.Calling.{not-taken, taken}
+use Rattle.script.proofs.Goals.{Collected, none-collected, all-collected, fewer-words, one-collected}
 use borrow.Author.Needs.{needs}
 use Rattle.script.proofs.reading.read_goals.Statement.{statement}
 use Rattle.script.proofs.reading.read_goals.Tie as tie
@@ -17,33 +18,30 @@ abbrev μ-loop : tie.MeasureT-loop
 loop-holds : tie.Need-loop-holds Inv-loop μ-loop
 loop-holds c = none-collected _ _ _ (c .before .pre) refl refl
 
-next-requires : tie.Need-next-requires Inv-loop μ-loop
-next-requires c κs = c .loop .inv .inside
+byte-argument-requires : tie.Need-byte-argument-requires Inv-loop μ-loop
+byte-argument-requires c κs = c .loop .inv .inside
+
+author-requires : tie.Need-author-requires Inv-loop μ-loop
+author-requires c κs = c .before .before .before .loop .inv .inside
 
 returns : tie.Need-returns Inv-loop μ-loop
-returns c = all-collected (c .before .before .loop .inv) (c .before .next .ensures) (c .if1 .taken)
-
-returns-2 : tie.Need-returns-2 Inv-loop μ-loop
-returns-2 c =
-    let call = c .before .before in
-    let test = call .before .before in
-    let next = test .before in
-    no-goal (next .before .loop .inv) (next .next .ensures) (test .if1 .left) _ refl (sym (ap byteOf (c .enum-told .given .1)) ∙ call .byte-in .ensures)
+returns c =
+    let told = c .before .before in
+    let argument = told .before .before in
+    all-collected (argument .before .loop .inv) (not-taken (argument .byte-argument .ensures) (ap byteTaken (told .enum-told .given .1))) _ (c .before .author .ensures) _
+    (c .with-author .ensures)
 
 loop-less : tie.Need-loop-less Inv-loop μ-loop
 loop-less c =
-    let call = c .before .before .before .before in
-    let test = call .before .before in
-    let next = test .before in
-    fewer-words (next .before .loop .inv) (next .next .ensures) (test .if1 .left)
+    let goal = c .before .before in
+    let argument = goal .before .before in
+    fewer-words (argument .before .loop .inv) (taken (argument .byte-argument .ensures) (ap byteTaken (goal .goal .given .1)))
 
 loop-again : tie.Need-loop-again Inv-loop μ-loop
 loop-again c =
-    let told = c .before .before in
-    let call = told .before .before in
-    let test = call .before .before in
-    let next = test .before in
-    one-collected (next .before .loop .inv) (next .next .ensures) (test .if1 .left) _ _ (sym (ap byteOf (told .goal .given .1)) ∙ call .byte-in .ensures) (c .with-goal .ensures)
+    let goal = c .before .before in
+    let argument = goal .before .before in
+    one-collected (argument .before .loop .inv) (taken (argument .byte-argument .ensures) (ap byteTaken (goal .goal .given .1))) _ (c .with-goal .ensures)
 
 pub read-goals-spec : {M : Type 1} → statement M
 read-goals-spec =
@@ -52,15 +50,12 @@ read-goals-spec =
     Inv-loop
     μ-loop
     loop-holds
-    next-requires
-    returns
+    byte-argument-requires
     (λ c. search needs)
     (λ c. search needs)
-    (λ c. search needs)
+    author-requires
     (λ c κs. search needs)
-    (λ c. search needs)
-    (λ c. search needs)
-    returns-2
+    returns
     (λ c κs. search needs)
     loop-less
     loop-again)

@@ -52,9 +52,14 @@ unfolding verbOf same ascii
 returns-11 c = ap verbOf (sym (c .before .same11 .ensures .0 (c .if11 .taken)))
 
 returns-12 : tie.Need-returns-12
+unfolding verbOf same ascii
+returns-12 c = ap verbOf (sym (c .before .same12 .ensures .0 (c .if12 .taken)))
+
+returns-13 : tie.Need-returns-13
 unfolding verbOf ascii
-returns-12 c =
-    let t11 = c in
+returns-13 c =
+    let t12 = c in
+    let t11 = t12 .before .before .before in
     let t10 = t11 .before .before .before in
     let t9 = t10 .before .before .before in
     let t8 = t9 .before .before .before in
@@ -77,6 +82,7 @@ returns-12 c =
       unlike _ _ _ (t9 .before .same9 .ensures .1) (t9 .if9 .left),
       unlike _ _ _ (t10 .before .same10 .ensures .1) (t10 .if10 .left),
       unlike _ _ _ (t11 .before .same11 .ensures .1) (t11 .if11 .left),
+      unlike _ _ _ (t12 .before .same12 .ensures .1) (t12 .if12 .left),
     )
 
 pub verb-of-spec : {M : Type 1} → statement M
@@ -116,4 +122,7 @@ verb-of-spec =
     (λ c. search needs)
     (λ c κs. search needs)
     returns-11
-    returns-12)
+    (λ c. search needs)
+    (λ c κs. search needs)
+    returns-12
+    returns-13)
