@@ -33,10 +33,11 @@ fn with_verdict(
     requires { ⌜ (author < authorTable) × (questions ≤ mostTurns) ⌝ }
     ensures { λ r. ⌜ Concluded s author (record { steps = stepsOf steps; worlds = worldsOf worlds; questions = questions }) verdict held r ⌝ }
 {
+    let before = s.authors;
+    let authors = counting::with_decided(before, author, questions);
     let flats = s.flats;
     let implications = s.implications;
     let marks = s.marks;
-    let authors = s.authors;
     let session = Session {
         n: s.n,
         flats,
@@ -45,7 +46,7 @@ fn with_verdict(
         worlds,
         held,
         marks,
-        authors: counting::with_decided(authors, author, questions),
+        authors,
     };
     Answered { verdict, session }
 }

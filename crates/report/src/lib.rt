@@ -4,7 +4,7 @@ use prover::Session;
 use prover::Verdict;
 ghost use lib.ListN.{length};
 ghost use Rattle.prover.specs.State.{stepsOf, worldsOf};
-ghost use Rattle.report.specs.Report.{validReport, refutedReport, reportBy, reportOf};
+ghost use Rattle.report.specs.Report.{validReport, refutedReport, reportWith, reportOf};
 ghost use Rattle.text.specs.Output.{Appends, Reported};
 
 mod lines;
@@ -30,12 +30,10 @@ fn write_refuted(draft: &mut [u8], s: Session, questions: u32) -> usize
     lines::worlds(draft, second, worlds)
 }
 
-// Writes the report of a verdict to an author and the session that holds it at the draft's beginning.
-pub fn write(draft: &mut [u8], verdict: Verdict, s: Session, author: u8) -> usize
-    ensures { λ r. ⌜ Appends (reportBy verdict s author) (now (draft .entry)) 0 (now (draft .exit)) r ⌝ }
+// Writes the report of a verdict and the session that holds it, with so many questions, at the draft's beginning.
+pub fn write(draft: &mut [u8], verdict: Verdict, s: Session, questions: u32) -> usize
+    ensures { λ r. ⌜ Appends (reportWith questions verdict s) (now (draft .entry)) 0 (now (draft .exit)) r ⌝ }
 {
-    let authors = s.authors;
-    let questions = prover::work_of(authors, author).questions;
     match verdict {
         Verdict::Valid(_) => write_valid(draft, s, questions),
         Verdict::Refuted(_) => write_refuted(draft, s, questions),
@@ -49,6 +47,9 @@ pub fn report(settled: Settled, output: &mut [u8]) -> usize
 {
     let mut draft = [0u8; text::DRAFT];
     let verdict = settled.verdict;
-    let n = write(&mut draft, verdict, settled.session, ipl::PROGRAM);
+    let session = settled.session;
+    let authors = session.authors;
+    let questions = prover::work_of(authors, ipl::PROGRAM).questions;
+    let n = write(&mut draft, verdict, session, questions);
     text::hand_over(&draft, n, output)
 }

@@ -169,12 +169,13 @@ fn ask(s: Session, author: u8, goal: u8, output: &mut [u8]) -> Answer
     ensures { λ r. ⌜ Writes (CommandDone s (callBook (question author goal))) (now (output .entry)) (now (output .exit)) r ⌝ }
 {
     let r = prover::ask(s, author, goal);
-    let session = r.session;
+    let authors = r.session.authors;
+    let questions = prover::work_of(authors, author).questions;
     let verdict = r.verdict;
-    Answer {
-        session,
-        length: report::write(output, verdict, session, author),
-    }
+    let shown = r.session;
+    let length = report::write(output, verdict, shown, questions);
+    let session = r.session;
+    Answer { session, length }
 }
 
 fn set_mark(s: Session, mark: u8, output: &mut [u8]) -> Answer
