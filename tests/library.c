@@ -71,8 +71,11 @@ static void refused(Bytes input, const char *line) {
   require(strlen(line) < ZESTANCHOR_SHORTEST_SHEET, "a line as long as a sheet", ZESTANCHOR_SETTLE, input);
   gives(ZESTANCHOR_SETTLE, input, text(line));
   gives(ZESTANCHOR_CERTIFY, input, text(line));
+  gives(ZESTANCHOR_SCREEN, input, text(line));
   has_length(input, strlen(line));
 }
+
+static void screened(const char *formula, const char *line) { gives(ZESTANCHOR_SCREEN, text(formula), text(line)); }
 
 /* The sheet that docs/FORMAT.md shows. */
 static void example(void) {
@@ -107,13 +110,14 @@ static void null_pointers(void) {
   const Bytes nothing = {NULL, 0}, formula = text("p>p");
   refused(nothing, "refused 1\n");
   gives(ZESTANCHOR_CHECK, nothing, text("refused 13\n"));
-  for (int task = ZESTANCHOR_SETTLE; task <= ZESTANCHOR_CHECK; task++) {
+  for (int task = ZESTANCHOR_SETTLE; task <= ZESTANCHOR_SCREEN; task++) {
+    if (task == ZESTANCHOR_LENGTH) continue;
     require(zestanchor((uint8_t)task, formula.bytes, formula.length, NULL, 0) == 0, "no output, but a length", task, formula);
     require(zestanchor((uint8_t)task, NULL, 0, NULL, 0) == 0, "no output, but a length", task, nothing);
   }
   require(zestanchor(ZESTANCHOR_LENGTH, formula.bytes, formula.length, NULL, 0) == 83, "another length", ZESTANCHOR_LENGTH, formula);
   require(zestanchor(ZESTANCHOR_LENGTH, NULL, 0, NULL, 0) == 10, "another length", ZESTANCHOR_LENGTH, nothing);
-  calls += 8;
+  calls += 10;
 }
 
 int main(void) {
@@ -137,7 +141,16 @@ int main(void) {
   refused((Bytes){many, 4097}, "refused 1\n");
   memset(many, '(', sizeof many);
   refused((Bytes){many, 65}, "refused 2\n");
-  no_such_task(4);
+  screened("p>p", "passes\n");
+  screened("~0", "passes\n");
+  screened("p|(p>q|~q)", "passes\n");
+  screened("0", "falls\n");
+  screened("p|~p", "falls 1\n");
+  screened("((p>q)>p)>p", "falls 15 0\n");
+  screened("(p>q|r)>(p>q)|(p>r)", "falls 3 1 2\n");
+  screened("p>q>r|~r", "falls 16 16 1\n");
+  screened("a>b>c>d>a", "refused 22\n");
+  no_such_task(5);
   no_such_task(255);
   null_pointers();
   printf("library from C: no difference in %d calls\n", calls);

@@ -3,6 +3,7 @@
 pub mod certificate;
 pub mod corpus;
 pub mod forcing;
+pub mod fork;
 pub mod formula;
 pub mod naming;
 pub mod program;

@@ -7,7 +7,7 @@ pub const ROOM: usize = 16_384;
 pub const NO_TASK: usize = usize::MAX;
 
 /// The first number that is no task; so are all after it.
-pub const FIRST_UNKNOWN: u8 = 4;
+pub const FIRST_UNKNOWN: u8 = 5;
 
 #[derive(Clone, Copy, Debug, PartialEq, Eq)]
 #[repr(u8)]
@@ -18,6 +18,8 @@ pub enum Task {
     Check = 2,
     /// How long what `Certify` gives is.
     Length = 3,
+    /// The line of a text's screening.
+    Screen = 4,
 }
 
 extern "C" {

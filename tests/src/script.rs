@@ -1,6 +1,7 @@
 //! Scripts of calls on a session: lines of words, and what is answered to each.
 
 use crate::certificate::verdict_line;
+use crate::fork::screen_line;
 use crate::naming::{Flat, Implication};
 use crate::refusal::Refusal;
 use crate::report::{verdict_lines, world_lines};
@@ -38,6 +39,7 @@ enum Call<'a> {
     Length,
     Sheet,
     Check(Vec<u8>),
+    Screen(&'a [u8]),
 }
 
 impl Dialogue {
@@ -82,6 +84,7 @@ impl Dialogue {
             Call::Length => session.length_told().map(|length| format!("length {length}\n")),
             Call::Sheet => session.sheet().map(|sheet| format!("sheet {}\n", hexadecimal(&sheet))),
             Call::Check(sheet) => Ok(verdict_line(&sheet)),
+            Call::Screen(text) => Ok(screen_line(text)),
         }
     }
 
@@ -101,7 +104,7 @@ fn read(line: &[u8]) -> Option<Call<'_>> {
     let words: Vec<&[u8]> = line.split(|&byte| byte == b' ').filter(|word| !word.is_empty()).collect();
     let call = match words[..] {
         [b"open", atoms] => Call::Open(byte(atoms)?),
-        [b"text", ..] => Call::Text(text_of(line)),
+        [word @ b"text", ..] => Call::Text(behind(word, line)),
         [b"flat", left, right] => Call::Flat(Flat { left: number(left)?, right: number(right)? }),
         [b"implication", a, b, c] => Call::Implication(Implication { a: byte(a)?, b: byte(b)?, c: byte(c)? }),
         [b"ask", goal] => Call::Ask { goal: byte(goal)?, author: 0 },
@@ -115,6 +118,7 @@ fn read(line: &[u8]) -> Option<Call<'_>> {
         [b"sheet"] => Call::Sheet,
         [b"check"] => Call::Check(Vec::new()),
         [b"check", digits] => Call::Check(bytes(digits)?),
+        [word @ b"screen", ..] => Call::Screen(behind(word, line)),
         _ => return None,
     };
     Some(call)
@@ -133,10 +137,10 @@ fn goal_lines(answer: &GoalAnswer) -> String {
     }
 }
 
-/// All behind the word `text` and one space.
-fn text_of(line: &[u8]) -> &[u8] {
+/// All behind the first word and one space.
+fn behind<'a>(word: &[u8], line: &'a [u8]) -> &'a [u8] {
     let spaces = line.iter().take_while(|&&byte| byte == b' ').count();
-    line.get(spaces + b"text ".len()..).unwrap_or_default()
+    line.get(spaces + word.len() + 1..).unwrap_or_default()
 }
 
 fn number(word: &[u8]) -> Option<u64> {
@@ -221,6 +225,7 @@ mod tests {
             ("", " ", "open 7", "done\n"),
             ("flat 1", " ", "1", "done\n"),
             ("text ", " ", "p", "refused 1\n"),
+            ("screen ", " ", "p", "refused 1\n"),
             ("x", "x", "", "line 1 is no call\n"),
         ];
         for (start, filler, end, wanted) in forms {
@@ -340,6 +345,32 @@ mod tests {
         let page = "goal 0 valid 1\ngoal 1 refuted 1\nworld 4\ngoal 2 valid 1\ngoal 3 refuted by 1\n";
         let script = opened.to_string() + "page 2 0 2 255\n";
         assert_eq!(answers(script.as_bytes()), "done\n".repeat(3) + page);
+    }
+
+    #[test]
+    fn texts_screened() {
+        let no_call = "line 1 is no call\n";
+        let cases = [
+            ("screen p>p", "passes\n"),
+            ("   screen   p | ~p  ", "falls 1\n"),
+            ("screen 0", "falls\n"),
+            ("screen a|b|c|d", "refused 22\n"),
+            ("screen", "refused 1\n"),
+            ("   screen", "refused 1\n"),
+            ("screen ", "refused 1\n"),
+            ("screen  ", "refused 3 at 1\n"),
+            ("screen  p q", "refused 3 at 3\n"),
+            ("screen p #", "refused 3 at 2\n"),
+            ("screen screen", "refused 3 at 1\n"),
+            ("screenp", no_call),
+            ("screen\tp", no_call),
+            ("screens p", no_call),
+            ("Screen p", no_call),
+            ("scree p", no_call),
+        ];
+        for (line, wanted) in cases {
+            assert_eq!(answers(line.as_bytes()), wanted, "{line}");
+        }
     }
 
     #[test]

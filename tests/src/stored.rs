@@ -6,7 +6,7 @@ use std::path::Path;
 const FOLDER: &str = concat!(env!("CARGO_MANIFEST_DIR"), "/scripts");
 
 /// How many there are, so that a lost one is missed.
-pub const COUNT: usize = 13;
+pub const COUNT: usize = 14;
 
 pub struct Stored {
     pub name: String,

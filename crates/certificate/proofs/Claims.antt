@@ -19,37 +19,12 @@ use Rattle.ipl.specs.Clause.{satisfies, realizes}
 use Rattle.ipl.specs.Range.{setInRange}
 use Rattle.ipl.specs.Question.{ask}
 use Rattle.ipl.specs.Search.{Step, implicationAt, known, isNone, stepInRange}
+use Rattle.ipl.specs.First.{firstFailing, FirstFailing}
 use Rattle.ipl.specs.Claim.{StepsRight, Derivation, WorldRight, WorldsRight}
+use Rattle.ipl.proofs.First.{FirstSaid, first-none, first-said}
 use Rattle.ipl.proofs.Lists.{all-All, All-all, All-at, All-of, any-at, at-any}
 use Rattle.certificate.specs.Certificate.{Problem, valid, refuted}
-use Rattle.certificate.specs.Judge.{firstFailing, stepProves, goalProved, worldRight, wrongPlace}
-use Rattle.certificate.proofs.FirstWrong.{first-none}
-
--- ---- the first that fails
-
--- i is the first number below `count` that fails the test.
-pub record FirstFailing (test : ℕ → Bool) (count i : ℕ) : Type 0 where
-  pub below : i < count
-  pub fails : test i ≡ false
-  pub before : (j : ℕ) → j < i → test j ≡ true
-
--- What is said of an answer of `firstFailing`.
-abbrev FirstSaid : (ℕ → Bool) → ℕ → Option ℕ → Type 0
-FirstSaid test count none = (j : ℕ) → j < count → test j ≡ true
-FirstSaid test count (some i) = FirstFailing test count i
-
-first-said : (test : ℕ → Bool) (count : ℕ) → FirstSaid test count (firstFailing test count)
-unfolding firstFailing orElse
-first-said test zero = λ j l. absurd (not-suc-le-zero l)
-first-said test (suc k) = go (firstFailing test k) (first-said test k)
-  where
-    last : FirstSaid test k none → (b : Bool) → test k ≡ b → FirstSaid test (suc k) (cond b none (some k))
-    last h true e = λ j l. elim (decLt j k) [ yes m ↦ h j m | no m ↦ let d : k ≡ j = omega arith in subst (λ (z : ℕ). test z ≡ true) d e ]
-    last h false e = record { below = omega arith; fails = e; before = h }
-
-    go : (o : Option ℕ) → FirstSaid test k o → FirstSaid test (suc k) (orElse o (cond (test k) none (some k)))
-    go none h = last h (test k) refl
-    go (some i) h = record { below = omega (arith, h .below); fails = h .fails; before = h .before }
+use Rattle.certificate.specs.Judge.{stepProves, goalProved, worldRight, wrongPlace}
 
 failing-none : (test : ℕ → Bool) (count : ℕ) → firstFailing test count ≡ none → (j : ℕ) → j < count → test j ≡ true
 failing-none test count e = subst (FirstSaid test count) e (first-said test count)

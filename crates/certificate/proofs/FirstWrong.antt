@@ -1,31 +1,15 @@
--- The first place that fails a test, and the place of what is wrong in a claim.
-use mathlib.Core.Bool.{Bool, true, false}
+-- The place of what is wrong in a claim.
+use mathlib.Core.Bool.{true, false}
 use mathlib.Core.List.{List}
 use mathlib.Core.Option.{none, some, orElse}
-use mathlib.Core.Path.{_≡_, refl, sym, ap, subst}
-use Prim.Native.Nat.{ℕ, zero, suc, _≤_, _<_}
-use native.Mathlib.Decide.{decLe}
-use native.Mathlib.Nat.{not-suc-le-zero}
+use mathlib.Core.Path.{_≡_, refl, sym, ap}
+use Prim.Native.Nat.{ℕ, _≤_, _<_}
 use native.Mathlib.Omega.{arith}
 use lib.ListN.{length}
 use Rattle.ipl.specs.Search.{Step}
+use Rattle.ipl.proofs.First.{first-none, first-at}
 use Rattle.certificate.specs.Certificate.{Problem, valid, refuted}
-use Rattle.certificate.specs.Judge.{firstFailing, stepProves, goalProved, worldRight, wrongPlace}
-
-module _ (test : ℕ → Bool) where
-  pub first-none : (count : ℕ) → ((j : ℕ) → j < count → test j ≡ true) → firstFailing test count ≡ none
-  unfolding firstFailing orElse
-  first-none zero h = refl
-  first-none (suc k) h = rw (first-none k (λ j l. h j (omega arith)), h k (omega arith)) refl
-
-  first-at : (count i : ℕ) → i < count → ((j : ℕ) → j < i → test j ≡ true) → test i ≡ false → firstFailing test count ≡ some i
-  unfolding firstFailing orElse
-  first-at zero i l h e = absurd (not-suc-le-zero l)
-  first-at (suc k) i l h e = elim (decLe (suc i) k) [
-    | yes m ↦ rw (first-at k i m h e) refl
-    | no m ↦ let here : i ≡ k = omega arith in
-        rw (first-none k (λ j n. h j (omega arith)), subst (λ (z : ℕ). test z ≡ false) here e) (ap some (sym here))
-  ]
+use Rattle.certificate.specs.Judge.{stepProves, goalProved, worldRight, wrongPlace}
 
 -- ---- worlds
 

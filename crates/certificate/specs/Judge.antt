@@ -2,11 +2,12 @@
 use mathlib.Core.Bool.{Bool, not, cond, _&&_}
 use mathlib.Core.List.{List}
 use mathlib.Core.Option.{Option, none, some, orElse}
-use Prim.Native.Nat.{ℕ, zero, suc}
+use Prim.Native.Nat.{ℕ}
 use lib.Dec.{eqb, leb}
 use lib.ListN.{length, getD, take}
 use Rattle.atoms.specs.Sets.{has, within}
 use Rattle.ipl.specs.Lists.{all, any}
+use Rattle.ipl.specs.First.{firstFailing}
 use Rattle.ipl.specs.Clause.{satisfies, closed, realizes}
 use Rattle.ipl.specs.Range.{flatTable, implicationTable, stepTable, worldTable, atomOrBot, setInRange, flatInRange, implicationInRange}
 use Rattle.ipl.specs.Question.{ask}
@@ -34,11 +35,6 @@ inRange p c =
 -- "15: a closing clause missing."
 unfoldable pub allClosed : Problem → Bool
 allClosed p = all (closed (p .flats)) (p .implications)
-
--- The first number below `count` that fails a test.
-unfoldable pub firstFailing : (ℕ → Bool) → ℕ → Option ℕ
-firstFailing test zero = none
-firstFailing test (suc k) = orElse (firstFailing test k) (cond (test k) none (some k))
 
 -- Step k.
 abbrev pub stepAt : List Step → ℕ → Step

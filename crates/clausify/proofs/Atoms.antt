@@ -13,10 +13,11 @@ use Rattle.ipl.specs.Clause.{bot}
 use Rattle.ipl.proofs.Range.{AtomOrBot}
 use Rattle.syntax.specs.Nodes.{Entry, letter, falsum, compound, named}
 use Rattle.syntax.specs.Refusal.{mostNames}
-use Rattle.clausify.specs.Naming.{letterCount, atomsFrom, atomsOf, atomAt}
+use Rattle.syntax.specs.Letters.{lettersOf, letterCount}
+use Rattle.clausify.specs.Naming.{atomsFrom, atomsOf, atomAt}
 
 pub letters-named : (T : List Entry) → letterCount T ≤ named T
-unfolding letterCount named
+unfolding lettersOf named
 letters-named [] = omega arith
 letters-named (letter k ∷ T) = omega (arith, letters-named T)
 letters-named (falsum ∷ T) = letters-named T
@@ -41,7 +42,7 @@ wider l l' m x x' n falsum y h k b = b
 wider l l' m x x' n (compound c p q) y h k b = (omega (arith, b .0), b .1)
 
 between : (T : List Entry) (l m x n i : ℕ) → l + letterCount T ≤ m → x + named T ≤ n + letterCount T → i < length T → Between l m x n (getD T i falsum) (getD (atomsFrom l x T) i bot)
-unfolding letterCount named atomsFrom
+unfolding lettersOf named atomsFrom
 between [] l m x n i h k j = absurd (omega arith)
 between (letter s ∷ T) l m x n zero h k j = (omega arith, omega arith)
 between (letter s ∷ T) l m x n (suc i) h k j = wider l (suc l) m x x n (getD T i falsum) _ (omega arith) (omega arith) (between T (suc l) m x n i (omega arith) (omega arith) (omega arith))
@@ -103,7 +104,7 @@ apart l m x n h (compound c p r) y a u b d q = omega (arith, b .0)
 
 found : (T : List Entry) (l x n i : ℕ) → l + letterCount T ≤ x → x + named T ≤ n + letterCount T → i < length T → (getD (atomsFrom l x T) i bot ≡ bot → ⊥)
     → partWith (getD (atomsFrom l x T) i bot) (atomsFrom l x T) ≡ i
-unfolding letterCount named atomsFrom
+unfolding lettersOf named atomsFrom
 found [] l x n i h k j d = absurd (omega arith)
 found (letter s ∷ T) l x n zero h k j d = found-first l (atomsFrom (suc l) x T)
 found (letter s ∷ T) l x n (suc i) h k j d =

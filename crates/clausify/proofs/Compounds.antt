@@ -8,7 +8,8 @@ use Rattle.ipl.specs.Clause.{bot}
 use Rattle.ipl.specs.Book.{Addition}
 use Rattle.ipl.proofs.Lists.{All-append, All-left, All-right}
 use Rattle.syntax.specs.Nodes.{Entry, letter, falsum, compound}
-use Rattle.clausify.specs.Naming.{letterCount, atomsFrom, atomsOf, atomAt, partCalls, callsFrom, calls}
+use Rattle.syntax.specs.Letters.{letterCount}
+use Rattle.clausify.specs.Naming.{atomsFrom, atomsOf, atomAt, partCalls, callsFrom, calls}
 use Rattle.clausify.specs.Writing.{entryCalls}
 
 module _ (P : Addition → Type 0) (A : List ℕ) where

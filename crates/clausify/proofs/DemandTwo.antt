@@ -48,7 +48,7 @@ module _ (t : Formula) where
   Counters m = Countermodel (flatsBy (calls (nodes t .table))) (implicationsBy (calls (nodes t .table))) (goalOf t) m
 
   -- A formula that some model does not force at its root has a countermodel.
-  no-countermodel : named (nodes t .table) ≤ mostNames → ((m : Model) → Counters m → ⊥) → (m : Model) → IsModel m → forces m (m .root) t
+  pub no-countermodel : named (nodes t .table) ≤ mostNames → ((m : Model) → Counters m → ⊥) → (m : Model) → IsModel m → forces m (m .root) t
   unfolding goalOf
   no-countermodel few none m ok = elim (forces-decidable m t (m .root)) [
     | yes h ↦ h

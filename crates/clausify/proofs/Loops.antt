@@ -14,25 +14,27 @@ use Rattle.ipl.specs.Clause.{bot, Implication}
 use Rattle.ipl.specs.Book.{Addition}
 use Rattle.ipl.specs.Lists.{tabulate}
 use Rattle.ipl.specs.Range.{flatTable, implicationTable, atomOrBot}
-use Rattle.ipl.proofs.Lists.{tabulate-length}
+use Rattle.ipl.proofs.Lists.{read-within, tabulate-length}
 use Rattle.ipl.proofs.Range.{atom-in-range}
 use Rattle.sat.specs.Table.{clauseAt, clauses}
 use Rattle.prover.specs.State.{implicationRow, implicationsOf}
 use Rattle.prover.specs.declared.Implications.{Implications}
 use Rattle.syntax.specs.Nodes.{Entry, letter, falsum, compound, Earlier, named}
+use Rattle.syntax.specs.Letters.{lettersOf, letterCount}
 use Rattle.syntax.specs.Parts.{entryOf, held, room, Sound}
 use Rattle.syntax.specs.declared.Node.{Node}
 use Rattle.syntax.specs.declared.Parts.{Parts}
-use Rattle.syntax.proofs.Held.{held-length, held-at}
-use Rattle.clausify.specs.Naming.{letterCount, atomsFrom, atomsOf, atomAt, partCalls, calls}
+use Rattle.syntax.proofs.Held.{held-length, held-row}
+use Rattle.syntax.proofs.LetterCount.{entryAt, none-left, letters-left}
+use Rattle.clausify.specs.Naming.{atomsFrom, atomsOf, atomAt, partCalls, calls}
 use Rattle.clausify.specs.Additions.{flatsBy, implicationsBy}
-use Rattle.clausify.specs.Writing.{lettersIn, entryCalls, clausesOfName, Passed, NamesOf, Nameable, Put, PartIn, PartsIn, EntryRoom, Appended}
+use Rattle.clausify.specs.Writing.{entryCalls, clausesOfName, Passed, NamesOf, Nameable, Put, PartIn, PartsIn, EntryRoom, Appended}
 use Rattle.clausify.specs.declared.naming.Names.{Names}
 use Rattle.clausify.specs.declared.naming.Next.{Next}
 use Rattle.clausify.proofs.Additions.{flatsBy-append, implicationsBy-append}
 use Rattle.clausify.proofs.Atoms.{letters-named, Between, atom-between, atom-below}
 use Rattle.clausify.proofs.Sizes.{entry-size}
-use Rattle.clausify.proofs.Passes.{read-within, one-each, entryAt, callsLeft, calls-start, calls-end, none-left, letters-left, named-left, calls-left, atoms-left}
+use Rattle.clausify.proofs.Passes.{callsLeft, calls-start, calls-end, named-left, calls-left, atoms-left}
 
 named-length : (T : List Entry) → named T ≤ length T
 unfolding named
@@ -40,29 +42,6 @@ named-length [] = omega arith
 named-length (letter l ∷ T) = omega (arith, named-length T)
 named-length (falsum ∷ T) = omega (arith, named-length T)
 named-length (compound c a b ∷ T) = omega (arith, named-length T)
-
--- ---- letters counted
-pub record Counted (p : Parts) (n i : ℕ) : Type 0 where
-  pub inside : i ≤ p .count
-  pub letters : n + letterCount (drop i (held p)) ≡ letterCount (held p)
-
-module _ (p : Parts) (s : Sound p) where
-  table-size : named (held p) ≤ room
-  table-size = omega (arith, named-length (held p), held-length p s, s .bounded)
-
-  pub counted-none : Counted p 0 0
-  counted-none = record { inside = omega arith; letters = omega arith }
-
-  module _ (n i : ℕ) (c : Counted p n i) where
-    pub counted-byte : (d : Node) (r : ℕ) → r ≡ lettersIn (entryAt p i d) → n + r < 256
-    counted-byte d r e = omega (arith, c .letters, letters-named (held p), table-size, one-each (entryAt p i d))
-
-    pub counted-more : (d : Node) (r : ℕ) → i < p .count → r ≡ lettersIn (entryAt p i d) → Counted p (n + r) (i + 1)
-    counted-more d r h e = record { inside = omega arith; letters = omega (arith, c .letters, letters-left p s i d h) }
-
-    pub counted-all : p .count ≤ i → n ≡ letterCount (held p)
-    unfolding letterCount
-    counted-all h = omega (arith, c .letters, ap letterCount (none-left p s i h))
 
 -- ---- atoms given
 pub record Given (p : Parts) (atoms : List ℕ) (n : Next) (i : ℕ) : Type 0 where
@@ -73,6 +52,9 @@ pub record Given (p : Parts) (atoms : List ℕ) (n : Next) (i : ℕ) : Type 0 wh
   pub names : n .name + named (drop i (held p)) ≡ named (held p) + letterCount (drop i (held p))
 
 module _ (p : Parts) (s : Sound p) where
+  table-size : named (held p) ≤ room
+  table-size = omega (arith, named-length (held p), held-length p s, s .bounded)
+
   pub given-none : (atoms : List ℕ) (letters : ℕ) → length atoms ≡ room → letters ≡ letterCount (held p)
       → Given p atoms (record { atom = 0; letter = 0; name = letters }) 0
   unfolding atomsOf
@@ -87,8 +69,8 @@ module _ (p : Parts) (s : Sound p) where
   module _ (atoms : List ℕ) (n : Next) (i : ℕ) (g : Given p atoms n i) where
     pub given-small : (n .letter < bot) × (n .name < bot)
     given-small = (
-      omega (arith, g .letters, letters-named (held p), table-size p s),
-      omega (arith, g .names, letters-named (drop i (held p)), table-size p s),
+      omega (arith, g .letters, letters-named (held p), table-size),
+      omega (arith, g .names, letters-named (drop i (held p)), table-size),
     )
 
     pub given-more : (d : Node) (r : Next) → i < p .count → Passed n (entryAt p i d) r → Given p (set atoms i (r .atom)) r (i + 1)
@@ -104,7 +86,7 @@ module _ (p : Parts) (s : Sound p) where
     }
 
     pub given-all : p .count ≤ i → NamesOf (held p) (record { atoms = atoms; count = n .name })
-    unfolding letterCount named atomsFrom
+    unfolding lettersOf named atomsFrom
     given-all h = record {
       atoms = λ j lt. sym (getD-take i atoms j bot (omega (arith, lt, held-length p s))) ∙ ap (λ (l : List ℕ). getD l j bot) all;
       count = omega (arith, g .names, ap letterCount (none-left p s i h), ap named (none-left p s i h));
@@ -122,7 +104,7 @@ module _ (p : Parts) (r : Names) (g : Nameable p r) (l : length (r .atoms) ≡ r
   inside = omega (arith, held-length p (g .sound))
 
   entry-is : getD (held p) i falsum ≡ entryAt p i d
-  entry-is = read-within (held p) i falsum (entryOf (d .part)) inside ∙ held-at p (g .sound) i d h
+  entry-is = held-row p (g .sound) i d h
 
   atom-is : getD (r .atoms) i 0 ≡ atomAt (held p) i
   atom-is = read-within (r .atoms) i 0 bot (omega (arith, l, g .sound .bounded)) ∙ g .names .atoms i inside

@@ -10,42 +10,26 @@ use lib.Seq.{drop-cons}
 use Rattle.ipl.specs.Clause.{bot}
 use Rattle.ipl.specs.Book.{Addition}
 use Rattle.syntax.specs.Nodes.{Entry, letter, falsum, compound, named}
+use Rattle.syntax.specs.Letters.{letterCount, lettersIn}
 use Rattle.syntax.specs.Parts.{entryOf, held, Sound}
 use Rattle.syntax.specs.declared.Part.{Part}
 use Rattle.syntax.specs.declared.Part.the-variants.{Letter, Falsum, Compound}
 use Rattle.syntax.specs.declared.Connective.{Connective}
 use Rattle.syntax.specs.declared.Node.{Node}
 use Rattle.syntax.specs.declared.Parts.{Parts}
-use Rattle.syntax.proofs.Held.{held-length, held-at}
-use Rattle.clausify.specs.Naming.{letterCount, atomsFrom, atomsOf, atomAt, partCalls, callsFrom, calls}
-use Rattle.clausify.specs.Writing.{lettersIn, namesIn, entryCalls, Passed}
+use Rattle.syntax.proofs.Held.{held-length}
+use Rattle.syntax.proofs.LetterCount.{entryAt, none-left, entry-here}
+use Rattle.clausify.specs.Naming.{atomsFrom, atomsOf, atomAt, partCalls, callsFrom, calls}
+use Rattle.clausify.specs.Writing.{namesIn, entryCalls, Passed}
 use Rattle.clausify.specs.declared.naming.Next.{Next}
 use Rattle.clausify.proofs.Atoms.{atoms-length}
 
--- A read within a list is the same whatever is read past its end.
-pub read-within : {A : Type 0} (l : List A) (i : ℕ) (d e : A) → i < length l → getD l i d ≡ getD l i e
-read-within [] i d e h = absurd (not-suc-le-zero h)
-read-within (x ∷ l) zero d e h = refl
-read-within (x ∷ l) (suc i) d e h = read-within l i d e (le-of-suc-le-suc h)
-
 -- ---- one entry
-letters-first : (e : Entry) (T : List Entry) → letterCount (e ∷ T) ≡ lettersIn e + letterCount T
-unfolding letterCount lettersIn
-letters-first (letter l) T = omega arith
-letters-first falsum T = omega arith
-letters-first (compound c a b) T = omega arith
-
 named-first : (e : Entry) (T : List Entry) → named (e ∷ T) ≡ lettersIn e + namesIn e + named T
 unfolding named lettersIn namesIn
 named-first (letter l) T = omega arith
 named-first falsum T = omega arith
 named-first (compound c a b) T = omega arith
-
-pub one-each : (e : Entry) → lettersIn e + namesIn e ≤ 1
-unfolding lettersIn namesIn
-one-each (letter l) = omega arith
-one-each falsum = omega arith
-one-each (compound c a b) = omega arith
 
 module _ (n : Next) (p : Part) where
   pub passed-letter : (l : ℕ) → p ≡ Letter l → Passed n (entryOf p) (record { atom = n .letter; letter = n .letter + 1; name = n .name })
@@ -67,10 +51,6 @@ module _ (n : Next) (p : Part) where
       (record { on = λ T. rw (add-one (n .name)) refl; letter-more = sym (add-zero (n .letter)); name-more = refl })
 
 -- ---- the entries left
-
--- The entry at i.
-abbrev pub entryAt : Parts → ℕ → Node → Entry
-entryAt p i d = entryOf (getD (p .nodes) i d .part)
 
 -- The calls of entries with the atoms X, one after the other.
 callsWith : List ℕ → List ℕ → List Entry → List Addition
@@ -99,33 +79,22 @@ unfolding callsLeft calls atomsOf
 calls-start p = calls-with (atomsOf (held p)) (held p) 0 (letterCount (held p))
 
 module _ (p : Parts) (s : Sound p) where
-  pub none-left : (i : ℕ) → p .count ≤ i → drop i (held p) ≡ []
-  none-left i h = drop-of-length-le (held p) {i = i} (rw (held-length p s) h)
-
   pub calls-end : (i : ℕ) → p .count ≤ i → callsLeft p i ≡ []
   unfolding callsLeft
-  calls-end i h = rw (none-left i h) (calls-with-none (atomsOf (held p)) (drop i (atomsOf (held p))))
+  calls-end i h = rw (none-left p s i h) (calls-with-none (atomsOf (held p)) (drop i (atomsOf (held p))))
 
   module _ (i : ℕ) (d : Node) (h : i < p .count) where
-    entry-here : drop i (held p) ≡ entryAt p i d ∷ drop (i + 1) (held p)
-    entry-here =
-        drop-cons (held p) i (entryOf (d .part)) (rw (held-length p s) h)
-        ∙ rw (add-one i) (ap (λ (e : Entry). e ∷ drop (suc i) (held p)) (held-at p s i d h))
-
     atom-here : drop i (atomsOf (held p)) ≡ atomAt (held p) i ∷ drop (i + 1) (atomsOf (held p))
     unfolding atomsOf
     atom-here = rw (add-one i) (drop-cons (atomsOf (held p)) i bot (omega (arith, h, held-length p s, atoms-length (held p) 0 (letterCount (held p)))))
 
-    pub letters-left : letterCount (drop i (held p)) ≡ lettersIn (entryAt p i d) + letterCount (drop (i + 1) (held p))
-    letters-left = ap letterCount entry-here ∙ letters-first (entryAt p i d) (drop (i + 1) (held p))
-
     pub named-left : named (drop i (held p)) ≡ lettersIn (entryAt p i d) + namesIn (entryAt p i d) + named (drop (i + 1) (held p))
-    named-left = ap named entry-here ∙ named-first (entryAt p i d) (drop (i + 1) (held p))
+    named-left = ap named (entry-here p s i d h) ∙ named-first (entryAt p i d) (drop (i + 1) (held p))
 
     pub calls-left : callsLeft p i ≡ entryCalls (atomsOf (held p)) (atomAt (held p) i) (entryAt p i d) ++ callsLeft p (i + 1)
     unfolding callsLeft callsWith
-    calls-left = ap₂ (callsWith (atomsOf (held p))) atom-here entry-here
+    calls-left = ap₂ (callsWith (atomsOf (held p))) atom-here (entry-here p s i d h)
 
     pub atoms-left : (n r : Next) → Passed n (entryAt p i d) r
         → atomsFrom (n .letter) (n .name) (drop i (held p)) ≡ r .atom ∷ atomsFrom (r .letter) (r .name) (drop (i + 1) (held p))
-    atoms-left n r g = ap (atomsFrom (n .letter) (n .name)) entry-here ∙ g .on (drop (i + 1) (held p))
+    atoms-left n r g = ap (atomsFrom (n .letter) (n .name)) (entry-here p s i d h) ∙ g .on (drop (i + 1) (held p))

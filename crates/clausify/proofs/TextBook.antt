@@ -15,7 +15,8 @@ use Rattle.ipl.proofs.Book.{Reached, opened-reached, after-reached}
 use Rattle.ipl.specs.Formula.{Formula}
 use Rattle.syntax.specs.Nodes.{nodes, named}
 use Rattle.syntax.specs.Refusal.{mostNames}
-use Rattle.clausify.specs.Naming.{letterCount, atomsOf, calls, atomCount, textBook, goalOf}
+use Rattle.syntax.specs.Letters.{letterCount}
+use Rattle.clausify.specs.Naming.{atomsOf, calls, atomCount, textBook, goalOf}
 use Rattle.clausify.specs.Additions.{tableBook, Unrefused}
 use Rattle.clausify.proofs.Additions.{AddsInRange, after-additions, additions-unrefused}
 use Rattle.clausify.proofs.Atoms.{atom-below}

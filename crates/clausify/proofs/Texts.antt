@@ -9,6 +9,7 @@ use Rattle.ipl.specs.Lists.{tabulate}
 use Rattle.ipl.specs.Clause.{bot, Flat}
 use Rattle.ipl.specs.Authors.{program}
 use Rattle.ipl.specs.Book.{Book, opened}
+use Rattle.ipl.proofs.Lists.{read-within}
 use Rattle.sat.specs.Table.{clauses}
 use Rattle.prover.specs.State.{implicationsOf, stepsOf, marksOf, book}
 use Rattle.prover.specs.Work.{noneDone}
@@ -21,9 +22,7 @@ use Rattle.syntax.specs.Nodes.{nodes, named, WellOrdered}
 use Rattle.syntax.specs.Refusal.{mostNames, Refused, line-1, line-2, line-3, line-4}
 use Rattle.syntax.specs.Judge.{Judgement, refused, accepted, judge, Right}
 use Rattle.syntax.specs.Parts.{held, room}
-use Rattle.syntax.specs.Answer.{Read, AnswersWith}
-use Rattle.syntax.specs.declared.Outcome.{Outcome}
-use Rattle.syntax.specs.declared.Outcome.the-variants.{Refusal, Formula}
+use Rattle.syntax.specs.Answer.{Read}
 use Rattle.syntax.specs.declared.Parts.{Parts}
 use Rattle.syntax.proofs.Held.{held-length}
 use Rattle.syntax.proofs.Stands.{root-inside, table-ordered}
@@ -34,7 +33,6 @@ use Rattle.clausify.specs.Calls.{ClausifiedAs, SettledAs}
 use Rattle.clausify.specs.Writing.{NamesOf, Nameable, Put}
 use Rattle.clausify.specs.declared.naming.Names.{Names}
 use Rattle.clausify.specs.declared.Clausified.{Clausified}
-use Rattle.clausify.proofs.Passes.{read-within}
 use Rattle.clausify.proofs.TextBook.{opened-in-range, text-book}
 
 -- The opened session with the clauses of a table.
@@ -60,12 +58,6 @@ unfolding clauses tabulate
 put-first left right left2 right2 k F w = w .rows
 
 -- ---- read
-pub read-as : (s : List ℕ) (o : Outcome) (p : Parts) → AnswersWith s o p → (root : ℕ) → o ≡ Formula root → Read s root p
-read-as s o p h root e = subst (λ (o : Outcome). AnswersWith s o p) e h
-
-pub refused-as : (s : List ℕ) (o : Outcome) (p : Parts) → AnswersWith s o p → (number place : ℕ) → o ≡ Refusal number place → Refused s number place
-refused-as s o p h number place e = subst (λ (o : Outcome). AnswersWith s o p) e h .0
-
 module _ (s : List ℕ) (root : ℕ) (p : Parts) (h : Read s root p) where
   few : named (nodes (h .formula) .table) ≤ mostNames
   few = omega (arith, h .accepted .size-right)

@@ -19,6 +19,7 @@ use Rattle.ipl.specs.Clause.{bot, one, Flat, Implication, closing, closings}
 use Rattle.ipl.specs.Range.{atomOrBot}
 use Rattle.ipl.proofs.Range.{atom-or-bot, single-one}
 use Rattle.ipl.specs.Book.{Addition, addFlat, addImplication}
+use Rattle.ipl.proofs.Lists.{read-within}
 use Rattle.sat.specs.Table.{clauses}
 use Rattle.prover.specs.State.{implicationsOf}
 use Rattle.prover.specs.Calls.{flatOf}
@@ -27,7 +28,6 @@ use Rattle.sat.proofs.Table.{clauses-more}
 use Rattle.clausify.specs.Naming.{setOf, clause, partCalls}
 use Rattle.clausify.specs.Additions.{flatsBy, implicationsBy}
 use Rattle.clausify.proofs.Additions.{flatsBy-append, implicationsBy-append}
-use Rattle.clausify.proofs.Passes.{read-within}
 use Rattle.clausify.specs.Writing.{entryCalls, Fits, Put, Room, PartIn, PartsIn, EntryRoom, Appended}
 use Rattle.syntax.specs.Nodes.{And, Or, Implies}
 use Rattle.syntax.specs.Parts.{connectiveOf, entryOf}

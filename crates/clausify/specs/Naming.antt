@@ -9,13 +9,8 @@ use Rattle.ipl.specs.Lists.{any}
 use Rattle.ipl.specs.Clause.{bot, one}
 use Rattle.ipl.specs.Book.{Book, Addition, addFlat, addImplication, add, opened, after}
 use Rattle.ipl.specs.Formula.{Formula}
+use Rattle.syntax.specs.Letters.{letterCount}
 use Rattle.syntax.specs.Nodes.{Connective, And, Or, Implies, Entry, letter, falsum, compound, nodes, named}
-
-unfoldable pub letterCount : List Entry → ℕ
-letterCount [] = 0
-letterCount (letter l ∷ T) = suc (letterCount T)
-letterCount (falsum ∷ T) = letterCount T
-letterCount (compound c a b ∷ T) = letterCount T
 
 -- "Letters get atoms in order of first standing; then each connective part gets a name x, inner before outer, left before right":
 -- the atoms of a table's parts, where the next letter gets l and the next name is x.

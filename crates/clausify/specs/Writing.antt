@@ -13,18 +13,14 @@ use Rattle.sat.specs.Table.{clauses}
 use Rattle.prover.specs.State.{implicationsOf}
 use Rattle.prover.specs.declared.Implications.{Implications}
 use Rattle.syntax.specs.Nodes.{Entry, letter, falsum, compound, WellOrdered, named}
+use Rattle.syntax.specs.Letters.{lettersIn}
 use Rattle.syntax.specs.Parts.{held, Sound}
 use Rattle.syntax.specs.declared.Parts.{Parts}
 use Rattle.clausify.specs.Naming.{atomsFrom, atomAt, partCalls}
 use Rattle.clausify.specs.declared.naming.Names.{Names}
 use Rattle.clausify.specs.declared.naming.Next.{Next}
 
--- How many letters and names one entry brings, and its calls where its atom is x and A has the atoms of all parts.
-unfoldable pub lettersIn : Entry → ℕ
-lettersIn (letter l) = 1
-lettersIn falsum = 0
-lettersIn (compound c a b) = 0
-
+-- How many names one entry brings, and its calls where its atom is x and A has the atoms of all parts.
 unfoldable pub namesIn : Entry → ℕ
 namesIn (letter l) = 0
 namesIn falsum = 0

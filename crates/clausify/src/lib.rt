@@ -89,7 +89,7 @@ pub fn clausify(text: &[u8]) -> Clausified
             }
         }
         Outcome::Formula(root) => {
-            let names = naming::names_of(parts);
+            let names = naming::names_of(parts, reading.letters);
             Clausified {
                 refusal: 0,
                 place: 0,

@@ -4,9 +4,9 @@ use syntax::Parts;
 ghost use mathlib.Core.Path.{_≡_};
 ghost use Prim.Native.Nat.{_<_};
 ghost use Rattle.ipl.specs.Clause.{bot};
+ghost use Rattle.syntax.specs.Letters.{letterCount};
 ghost use Rattle.syntax.specs.Parts.{entryOf, held, Sound};
-ghost use Rattle.clausify.specs.Naming.{letterCount};
-ghost use Rattle.clausify.specs.Writing.{lettersIn, Passed, NamesOf};
+ghost use Rattle.clausify.specs.Writing.{Passed, NamesOf};
 
 // The atom of each part, and how many atoms there are.
 pub struct Names {
@@ -19,32 +19,6 @@ struct Next {
     atom: u8,
     letter: u8,
     name: u8,
-}
-
-fn letters_in(part: Part) -> u8
-    ensures { λ r. ⌜ r ≡ lettersIn (entryOf part) ⌝ }
-{
-    match part {
-        Part::Letter(_) => 1,
-        Part::Falsum => 0,
-        Part::Compound(_, _, _) => 0,
-    }
-}
-
-// Every table of the reader is sound.
-fn letter_count(parts: Parts) -> u8
-    requires { ⌜ Sound parts ⌝ }
-    ensures { λ r. ⌜ r ≡ letterCount (held parts) ⌝ }
-{
-    let mut letters = 0;
-    let mut i: u8 = 0;
-    while i < parts.count {
-        let node = parts.nodes[i as usize];
-        let part = node.part;
-        letters += letters_in(part);
-        i += 1;
-    }
-    letters
 }
 
 fn pass(next: Next, part: Part) -> Next
@@ -70,11 +44,11 @@ fn pass(next: Next, part: Part) -> Next
     }
 }
 
-pub fn names_of(parts: Parts) -> Names
-    requires { ⌜ Sound parts ⌝ }
+// The reader tells the letters.
+pub fn names_of(parts: Parts, letters: u8) -> Names
+    requires { ⌜ Sound parts × (letters ≡ letterCount (held parts)) ⌝ }
     ensures { λ r. ⌜ NamesOf (held parts) r ⌝ }
 {
-    let letters = letter_count(parts);
     let mut atoms = [ipl::BOTTOM; syntax::PARTS];
     let mut next = Next {
         atom: 0,

@@ -1,5 +1,6 @@
 -- The theorems of the crate `ipl`. docs/TRUST.md says which file holds which.
 pub mod Lists
+pub mod First
 pub mod Range
 pub mod Clause
 pub mod Question

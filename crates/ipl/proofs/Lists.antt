@@ -71,6 +71,12 @@ pub All-of : {A : Type 0} (P : A → Type 0) (l : List A) (d : A) → ((k : ℕ)
 All-of P [] d f = tt
 All-of P (x ∷ l) d f = (f 0 (suc-le-suc zero-le), All-of P l d (λ k h. f (suc k) (suc-le-suc h)))
 
+-- A read within a list is the same whatever is read past its end.
+pub read-within : {A : Type 0} (l : List A) (i : ℕ) (d e : A) → i < length l → getD l i d ≡ getD l i e
+read-within [] i d e h = absurd (not-suc-le-zero h)
+read-within (x ∷ l) zero d e h = refl
+read-within (x ∷ l) (suc i) d e h = read-within l i d e (le-of-suc-le-suc h)
+
 -- ---- some element
 
 pub any-at : {A : Type 0} (p : A → Bool) (l : List A) (d : A) → T (any p l) → (k : ℕ) × (k < length l) × T (p (getD l k d))

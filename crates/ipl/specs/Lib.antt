@@ -1,5 +1,6 @@
 -- The definitions of the documents, in the order in which they build on each other.
 pub mod Lists
+pub mod First
 pub mod Clause
 pub mod Range
 pub mod Question

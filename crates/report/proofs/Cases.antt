@@ -16,6 +16,7 @@ use Rattle.syntax.specs.Class as class
 use Rattle.ipl.specs.Formula.{Formula, letter}
 use Rattle.syntax.specs.Reading as reader
 use Rattle.syntax.specs.Nodes.{same, indexOf, withEntry, withFormula, nodes, named}
+use Rattle.syntax.specs.Letters.{lettersOf}
 use Rattle.syntax.specs.Scan.{move, fitting}
 use Rattle.syntax.specs.Judge.{accepted, deepAfter, judge}
 use Rattle.clausify.specs.Naming as naming
@@ -37,7 +38,7 @@ pub ten-cases : All Holds cases
 unfolding ascii decimalWithin decimal figures stepLine worldLine refusal validReport refutedReport printedEnd printedAs printed
     sheetBytes sheetAs sheet judge deepAfter move fitting class.classOf class.tokens class.after reader.negated reader.shut
     reader.finish reader.readToken reader.result reader.reading same indexOf withEntry withFormula nodes named
-    naming.letterCount naming.atomsFrom naming.atomsOf naming.setOf naming.clause naming.partCalls naming.callsFrom calls
+    lettersOf naming.atomsFrom naming.atomsOf naming.setOf naming.clause naming.partCalls naming.callsFrom calls
     atomCount naming.textBook naming.goalOf book.countInRange book.opened book.flatsFull book.flatRefusal
     book.implicationRefusal book.additionRefusal book.goalRefusal book.answer book.numberOf book.refusal book.added book.stepsAfter
     book.taken book.next book.after

@@ -2,5 +2,6 @@
 pub mod Rows
 pub mod Printed
 pub mod Fitting
+pub mod Screened
 pub mod Sheets
 pub mod Cases

@@ -1,4 +1,4 @@
-// What is printed of a verdict, and of a settled text.
+// What is printed of a verdict, of a settled text and of a screened one.
 use clausify::Settled;
 use prover::Session;
 use prover::Verdict;
@@ -8,6 +8,7 @@ ghost use Rattle.report.specs.Report.{validReport, refutedReport, report
 ghost use Rattle.text.specs.Output.{Appends, Reported};
 
 mod lines;
+pub mod screenings;
 
 // A line for each world.
 pub use lines::worlds;

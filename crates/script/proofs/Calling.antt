@@ -15,9 +15,9 @@ use Rattle.ipl.specs.Authors.{program}
 use Rattle.text.specs.Text.{ascii}
 use Rattle.script.specs.Words.{split, wordsOf}
 use Rattle.script.specs.Numbers.{isHexDigit, paired, bytesIn}
-use Rattle.script.specs.Command.{Command, command, readText, checkSheet, same, byteIn, argument, end, onlyByte, authorIn, orNone}
+use Rattle.script.specs.Command.{Command, command, readText, checkSheet, screenText, same, byteIn, argument, end, onlyByte, authorIn, orNone}
 use Rattle.script.specs.Places.{between, NextWord, Taken, firstOf, IsTaken, TakenAs, Takes, noWord, byteOf}
-use Rattle.script.specs.Reading.{meaning, Inside, Means, Arguments, Completes}
+use Rattle.script.specs.Reading.{meaning, Inside, Means, Behind, Arguments, Completes}
 use Rattle.script.specs.declared.numbers.Byte.{Byte}
 use Rattle.script.specs.declared.words.Word.{Word}
 use Rattle.script.specs.declared.reading.Verb.the-variants as verb
@@ -132,11 +132,18 @@ module _ {line : List ℕ} {from : ℕ} {w : Word} (n : NextWord line from w) wh
 -- ---- a text
 
 module _ (line : List ℕ) (from : ℕ) where
-  pub text-behind : from < length line → Arguments verb.Text line from (code.Text (from + 1))
-  text-behind h = record { is = ap (λ (l : List ℕ). command (readText l)) (sym (drop-drop 1 from line)); inside = omega arith }
+  pub behind-space : from < length line → Behind line from (from + 1)
+  behind-space h = record { rest-is = sym (drop-drop 1 from line); inside = omega arith }
 
-  pub no-text : from ≤ length line → length line ≤ from → Arguments verb.Text line from (code.Text from)
-  no-text i h = record { is = ap (λ (l : List ℕ). command (readText l)) (rw (drop-of-length-le line h)); inside = i }
+  pub behind-end : from ≤ length line → length line ≤ from → Behind line from from
+  behind-end i h = record { rest-is = rw (drop-of-length-le line h); inside = i }
+
+  module _ (r : ℕ) (b : Behind line from r) where
+    pub text-behind : Arguments verb.Text line from (code.Text r)
+    text-behind = record { is = ap (λ (l : List ℕ). command (readText l)) (b .rest-is); inside = b .inside }
+
+    pub screen-behind : Arguments verb.Screen line from (code.Screen r)
+    screen-behind = record { is = ap (λ (l : List ℕ). command (screenText l)) (b .rest-is); inside = b .inside }
 
 -- ---- a sheet's digits
 

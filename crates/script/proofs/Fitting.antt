@@ -51,8 +51,9 @@ use Rattle.text.proofs.Hexadecimal.{hex-length}
 use Rattle.text.proofs.Lengths.{labelled-length, refusal-length}
 use Rattle.judgement.proofs.Fitting.{judgement-fits}
 use Rattle.report.specs.Printed.{printedEnd}
+use Rattle.report.proofs.Screened.{screen-short}
 use Rattle.report.proofs.Fitting.{answer-fits, text-refusal-short}
-use Rattle.script.specs.Command.{Command, openSession, readText, callBook, tellLength, writeSheet, checkSheet, tellMean, Line, silent, command, noCall}
+use Rattle.script.specs.Command.{Command, openSession, readText, callBook, tellLength, writeSheet, checkSheet, tellMean, screenText, Line, silent, command, noCall}
 use Rattle.script.specs.State.{refusedLine, changedLine, textLine, lengthLine, sheetLine, meanLine, printedCall, printedCommand, printedLine}
 use Rattle.script.specs.Transcript.{mostLines}
 use Rattle.script.specs.Run.{outputRoom}
@@ -231,6 +232,7 @@ module _ (s : Session) (h : Stands s) where
   command-fits writeSheet = sheet-fits (certificateHeld s (s .held)) (h .standing .right)
   command-fits (checkSheet bytes) = omega (arith, judgement-fits bytes)
   command-fits (tellMean a) = mean-fits (worksOf (s .authors)) (h .bounded) a
+  command-fits (screenText t) = omega (arith, screen-short t)
 
   pub line-fits : (number : ℕ) → number ≤ mostLines → (l : Line) → Fits (printedLine (stateOf s) number l)
   unfolding ascii

@@ -17,13 +17,13 @@ use Rattle.text.specs.Text.{ascii, hex}
 use Rattle.bytes.specs.Bytes.{indexOf, indexAfter}
 use Rattle.script.specs.Words.{space, split, wordsOf, unindented}
 use Rattle.script.specs.Numbers.{isDigit, numberBelow, bytesIn}
-use Rattle.script.specs.Command.{Command, Line, silent, openSession, readText, callBook, tellLength, writeSheet, checkSheet, tellMean, command, noCall}
+use Rattle.script.specs.Command.{Command, Line, silent, openSession, readText, callBook, tellLength, writeSheet, checkSheet, tellMean, screenText, command, noCall}
 use Rattle.script.specs.Command.{same, verbOf, byteIn, argument, end, onlyByte, authorIn, GoalList, authored, oneMore, goalOr, pageIn, sheetArgument}
 use Rattle.script.specs.Command.{commandBy, commandFrom, commandIn, hash, isBlank, isComment, longestCall, orNone, lineOf}
 use Rattle.script.specs.Language.{Says, opens, reads, reads-nothing, adds-flat, adds-implication, asks, asks-by, pages, pages-by, sets-mark, returns-to}
-use Rattle.script.specs.Language.{tells, writes, checks, checks-nothing, tells-mean, CallsAreSaid, OneCall}
+use Rattle.script.specs.Language.{tells, writes, checks, checks-nothing, tells-mean, screens, screens-nothing, CallsAreSaid, OneCall}
 use Rattle.script.specs.declared.reading.Verb.{Verb}
-use Rattle.script.specs.declared.reading.Verb.the-variants.{Open, Text, Flat, Implication, Ask, Page, Mark, Return, Length, Sheet, Check, Mean, Other}
+use Rattle.script.specs.declared.reading.Verb.the-variants.{Open, Text, Flat, Implication, Ask, Page, Mark, Return, Length, Sheet, Check, Mean, Screen, Other}
 use Rattle.script.proofs.Splitting.{words-unindented, first-word, indented, unindented-more, first, behind-first, second-word}
 use Rattle.script.proofs.Hexadecimal.{hex-bytes, bytes-hex}
 use Rattle.script.proofs.Verbs.{same-is, Named, named}
@@ -69,12 +69,15 @@ goals-by G gs A a e f =
     goals-said G gs (ascii "by" ∷ A ∷ []) e ∙ ap (Option·map (λ p. record { author = p .author; goals = gs ++ p .goals })) (author-alone A a f)
     ∙ ap (λ (gs : List ℕ). some (record { author = a; goals = gs })) (append-nil gs)
 
+-- A word behind spaces, and what follows it.
+indented-by : (line : List ℕ) (spaces : ℕ) (word formula : List ℕ) → line ≡ replicate spaces space ++ word ++ formula
+    → unindented line ≡ unindented (word ++ formula)
+indented-by line spaces word formula e = ap unindented (e ∙ append-assoc (replicate spaces space) word formula) ∙ unindented-more spaces (word ++ formula)
+
 said-is : {line : List ℕ} {c : Command} → Says line c → commandIn line ≡ some c
 unfolding commandIn verbOf same ascii bind wordsOf split unindented
 said-is (opens N n e f) = rw (e, f)
-said-is {line} (reads spaces formula e) =
-    let u : List ℕ = ascii "text " ++ formula in
-    by-unindented line u (ap unindented (e ∙ append-assoc (replicate spaces space) (ascii "text ") formula) ∙ unindented-more spaces u)
+said-is {line} (reads spaces formula e) = by-unindented line (ascii "text " ++ formula) (indented-by line spaces (ascii "text ") formula e)
 said-is {line} (reads-nothing spaces e) = by-unindented line (ascii "text") (ap unindented e ∙ unindented-more spaces (ascii "text"))
 said-is (adds-flat L R left right e f g) = rw (e, f, g)
 said-is (adds-implication A B C a b c e f g h) = rw (e, f, g, h)
@@ -89,6 +92,8 @@ said-is (writes e) = rw e
 said-is (checks b bytes h e) = rw (e, hex-bytes (b ∷ bytes) h)
 said-is (checks-nothing e) = rw e
 said-is (tells-mean A a e f) = rw (e, f)
+said-is {line} (screens spaces formula e) = by-unindented line (ascii "screen " ++ formula) (indented-by line spaces (ascii "screen ") formula e)
+said-is {line} (screens-nothing spaces e) = by-unindented line (ascii "screen") (ap unindented e ∙ unindented-more spaces (ascii "screen"))
 
 -- ---- from the definition to a row
 
@@ -186,20 +191,31 @@ page-words (w ∷ ws) p e = goal-words w ws p (page-words ws) e
 
 module _ (line : List ℕ) where
   -- What follows the spaces and the word is empty or begins with a space.
-  said-text : (rest : List ℕ) → unindented line ≡ ascii "text" ++ rest → (rest ≡ []) ⊎ ((more : List ℕ) × (rest ≡ space ∷ more))
-      → Says line (readText (drop 1 rest))
-  unfolding ascii
-  said-text rest u s =
+  said-text : (call : List ℕ → Command) (word : List ℕ)
+      → ((spaces : ℕ) → line ≡ replicate spaces space ++ word → Says line (call []))
+      → ((spaces : ℕ) (formula : List ℕ) → line ≡ replicate spaces space ++ (word ++ (space ∷ [])) ++ formula → Says line (call formula))
+      → (rest : List ℕ) → unindented line ≡ word ++ rest → (rest ≡ []) ⊎ ((more : List ℕ) × (rest ≡ space ∷ more)) → Says line (call (drop 1 rest))
+  said-text call word alone with rest u s =
       let k = indented line in
       elim s [
-        | inl e ↦ rw e (reads-nothing (k .0) (k .1 ∙ ap (λ (l : List ℕ). replicate (k .0) space ++ l) (u ∙ rw e)))
+        | inl e ↦ rw e (alone (k .0) (k .1 ∙ ap (λ (l : List ℕ). replicate (k .0) space ++ l) (u ∙ rw e (append-nil word))))
         | inr p ↦
             rw (p .1)
-            (reads (k .0) (p .0)
+            (with (k .0) (p .0)
             (k .1
-            ∙ ap (λ (l : List ℕ). replicate (k .0) space ++ l) (u ∙ rw (p .1))
-            ∙ sym (append-assoc (replicate (k .0) space) (ascii "text ") (p .0))))
+            ∙ ap (λ (l : List ℕ). replicate (k .0) space ++ l) (u ∙ rw (p .1) (sym (append-assoc word (space ∷ []) (p .0))))
+            ∙ sym (append-assoc (replicate (k .0) space) (word ++ (space ∷ [])) (p .0))))
       ]
+
+  -- A text behind a word.
+  said-behind : (call : List ℕ → Command) (name : List ℕ)
+      → ((spaces : ℕ) → line ≡ replicate spaces space ++ name → Says line (call []))
+      → ((spaces : ℕ) (formula : List ℕ) → line ≡ replicate spaces space ++ (name ++ (space ∷ [])) ++ formula → Says line (call formula))
+      → (verb : List ℕ) (ws : List (List ℕ)) (c : Command) → wordsOf line ≡ verb ∷ ws → verb ≡ name → some (call (drop 1 (drop (length verb) (unindented line)))) ≡ some c → Says line c
+  said-behind call name alone with verb ws c e v h =
+      let f = first line verb ws e in
+      let here : call (drop 1 (f .rest)) ≡ c = ap (λ (l : List ℕ). call (drop 1 l)) (sym (behind-first f)) ∙ cc in
+      subst (Says line) here (said-text call name alone with (f .rest) (f .is ∙ ap (λ (l : List ℕ). l ++ f .rest) v) (f .starts))
 
   said-sheet : (ws : List (List ℕ)) (c : Command) → wordsOf line ≡ ascii "check" ∷ ws → sheetArgument ws ≡ some c → Says line c
   unfolding bind hex
@@ -239,13 +255,11 @@ module _ (line : List ℕ) where
 
   said-by : (b : Verb) (verb : List ℕ) (ws : List (List ℕ)) (c : Command) → wordsOf line ≡ verb ∷ ws → Named verb b
       → commandBy b (drop (length verb) (unindented line)) ws ≡ some c → Says line c
+  unfolding ascii
   said-by Open verb ws c e v h =
       let n = only openSession ws c h in
       subst (Says line) (n .call-is) (opens (n .word) (n .value) (cc) (n .number-is))
-  said-by Text verb ws c e v h =
-      let f = first line verb ws e in
-      let here : readText (drop 1 (f .rest)) ≡ c = ap (λ (l : List ℕ). readText (drop 1 l)) (sym (behind-first f)) ∙ cc in
-      subst (Says line) here (said-text (f .rest) (f .is ∙ ap (λ (l : List ℕ). l ++ f .rest) v) (f .starts))
+  said-by Text verb ws c e v h = said-behind readText (ascii "text") reads-nothing reads verb ws c e v h
   said-by Flat verb ws c e v h =
       let left = argued _ _ ws c h in
       let right = argued _ _ (left .rest) c (left .further-is) in
@@ -274,6 +288,7 @@ module _ (line : List ℕ) where
   said-by Mean verb ws c e v h =
       let a = only tellMean ws c h in
       subst (Says line) (a .call-is) (tells-mean (a .word) (a .value) (cc) (a .number-is))
+  said-by Screen verb ws c e v h = said-behind screenText (ascii "screen") screens-nothing screens verb ws c e v h
   said-by Other verb ws c e v h = absurd (never h)
 
   is-said : (c : Command) → commandIn line ≡ some c → Says line c

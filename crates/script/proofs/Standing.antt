@@ -45,7 +45,7 @@ use Rattle.certify.specs.Written.{lengthTold}
 use Rattle.certify.proofs.DemandTwo.{Standing, nothing-stands, dropped, mark-set, called}
 use Rattle.report.specs.Report.{reportBy}
 use Rattle.report.proofs.Printed.{answer-printed}
-use Rattle.script.specs.Command.{Command, openSession, readText, callBook, tellLength, writeSheet, checkSheet, tellMean, Line, silent, command, noCall}
+use Rattle.script.specs.Command.{Command, openSession, readText, callBook, tellLength, writeSheet, checkSheet, tellMean, screenText, Line, silent, command, noCall}
 use Rattle.script.specs.State.{State, fresh, next, changedLine, textLine, lengthLine, meanLine, printedCall, printedCommand, printedLine, nextLine}
 use Rattle.script.specs.Reading.{goalRoom}
 use Rattle.script.specs.Answer.{clausifiedLine, heldLine, pageLines, CallDone, CommandDone, LineDone}
@@ -217,6 +217,7 @@ module _ (s : Session) (h : Stands s) where
     command-reaches writeSheet (e, p) = unchanged e (p ∙ held-line)
     command-reaches (checkSheet bytes) (e, p) = unchanged e p
     command-reaches (tellMean a) (e, p) = unchanged e (p ∙ mean-line a)
+    command-reaches (screenText t) (e, p) = unchanged e p
 
     pub line-reaches : (number : ℕ) (l : Line) → LineDone s number l after printed
         → Reaches (nextLine (stateOf s) l) (printedLine (stateOf s) number l) after printed

@@ -9,7 +9,7 @@ use Rattle.atoms.proofs.Truth.{T-left, T-right, T-false, true-T, by-cond}
 use Rattle.text.specs.Text.{ascii}
 use Rattle.script.specs.Command.{same, verbOf}
 use Rattle.script.specs.declared.reading.Verb.{Verb}
-use Rattle.script.specs.declared.reading.Verb.the-variants.{Open, Text, Flat, Implication, Ask, Page, Mark, Return, Length, Sheet, Check, Mean, Other}
+use Rattle.script.specs.declared.reading.Verb.the-variants.{Open, Text, Flat, Implication, Ask, Page, Mark, Return, Length, Sheet, Check, Mean, Screen, Other}
 
 pub same-is : (l m : List ℕ) → T (same l m) → l ≡ m
 unfolding same
@@ -36,6 +36,7 @@ Named w Length = w ≡ ascii "length"
 Named w Sheet = w ≡ ascii "sheet"
 Named w Check = w ≡ ascii "check"
 Named w Mean = w ≡ ascii "mean"
+Named w Screen = w ≡ ascii "screen"
 Named w Other = Unit {0}
 
 module _ (w : List ℕ) where
@@ -51,4 +52,13 @@ module _ (w : List ℕ) where
       (either _ _ _ (λ e. e)
       (either _ _ _ (λ e. e)
       (either _ _ _ (λ e. e)
-      (either _ _ _ (λ e. e) (either _ _ _ (λ e. e) (either _ _ _ (λ e. e) (either _ _ _ (λ e. e) (either _ _ _ (λ e. e) (either _ _ _ (λ e. e) tt)))))))))))
+      (either _ _ _ (λ e. e)
+      (either _ _ _ (λ e. e) (either _ _ _ (λ e. e) (either _ _ _ (λ e. e) (either _ _ _ (λ e. e) (either _ _ _ (λ e. e) (either _ _ _ (λ e. e) tt))))))))))))
+
+  -- It is none of the names.
+  pub no-verb : same w (ascii "open") ≡ false → same w (ascii "text") ≡ false → same w (ascii "flat") ≡ false → same w (ascii "implication") ≡ false
+      → same w (ascii "ask") ≡ false → same w (ascii "page") ≡ false → same w (ascii "mark") ≡ false → same w (ascii "return") ≡ false
+      → same w (ascii "length") ≡ false → same w (ascii "sheet") ≡ false → same w (ascii "check") ≡ false → same w (ascii "mean") ≡ false
+      → same w (ascii "screen") ≡ false → Other ≡ verbOf w
+  unfolding verbOf
+  no-verb a b c d e f g h i j k l m = rw (a, b, c, d, e, f, g, h, i, j, k, l, m)

@@ -28,7 +28,8 @@ use Rattle.text.specs.Output.{Appends}
 use Rattle.judgement.specs.Report.{checkReport}
 use Rattle.certificate.specs.Format.{each}
 use Rattle.report.specs.Report.{worldLine, textRefusal, reportBy}
-use Rattle.script.specs.Command.{Command, openSession, readText, callBook, tellLength, writeSheet, checkSheet, tellMean, Line, silent, command, noCall}
+use Rattle.report.specs.Screening.{screenLine}
+use Rattle.script.specs.Command.{Command, openSession, readText, callBook, tellLength, writeSheet, checkSheet, tellMean, screenText, Line, silent, command, noCall}
 use Rattle.script.specs.declared.answers.Answer.{Answer}
 use Rattle.script.specs.Reading.{goalRoom}
 use Rattle.script.specs.State.{refusedLine, changedLine, goalLine, lengthLine, sheetLine, meanLine, figuredLine, noCallLine}
@@ -80,6 +81,7 @@ CommandDone s tellLength after printed = (after ≡ s) × (printed ≡ lengthLin
 CommandDone s writeSheet after printed = (after ≡ s) × (printed ≡ heldLine s)
 CommandDone s (checkSheet bytes) after printed = (after ≡ s) × (printed ≡ checkReport (sheets.judge bytes))
 CommandDone s (tellMean a) after printed = (after ≡ s) × (printed ≡ meanLine (meanTold s a))
+CommandDone s (screenText t) after printed = (after ≡ s) × (printed ≡ screenLine t)
 
 -- "A line that is no call .. changes nothing."
 abbrev pub LineDone : Session → ℕ → Line → Session → List ℕ → Type 0

@@ -13,7 +13,7 @@ use Rattle.text.specs.Text.{ascii}
 use Rattle.script.specs.Words.{space, wordsOf, unindented}
 use Rattle.script.specs.Numbers.{numberBelow, bytesIn}
 use Rattle.script.specs.declared.reading.Verb.{Verb}
-use Rattle.script.specs.declared.reading.Verb.the-variants.{Open, Text, Flat, Implication, Ask, Page, Mark, Return, Length, Sheet, Check, Mean, Other}
+use Rattle.script.specs.declared.reading.Verb.the-variants.{Open, Text, Flat, Implication, Ask, Page, Mark, Return, Length, Sheet, Check, Mean, Screen, Other}
 
 -- What a line asks for: the calls of the book, and those beside them.
 pub data Command : Type 0 where
@@ -24,6 +24,7 @@ pub data Command : Type 0 where
   writeSheet : Command
   checkSheet : List ℕ → Command
   tellMean : ℕ → Command
+  screenText : List ℕ → Command
 
 -- A line that prints nothing; a call; or a line that is neither.
 pub data Line : Type 0 where
@@ -50,7 +51,8 @@ verbOf w =
     (cond (same w (ascii "mark")) Mark
     (cond (same w (ascii "return")) Return
     (cond (same w (ascii "length")) Length
-    (cond (same w (ascii "sheet")) Sheet (cond (same w (ascii "check")) Check (cond (same w (ascii "mean")) Mean Other)))))))))))
+    (cond (same w (ascii "sheet")) Sheet
+    (cond (same w (ascii "check")) Check (cond (same w (ascii "mean")) Mean (cond (same w (ascii "screen")) Screen Other))))))))))))
 
 -- "One over 255 where a byte belongs, or a set over 2^64 - 1, is no number."
 abbrev pub byteIn : List ℕ → Option ℕ
@@ -125,6 +127,8 @@ commandBy Length rest ws = end tellLength ws
 commandBy Sheet rest ws = end writeSheet ws
 commandBy Check rest ws = sheetArgument ws
 commandBy Mean rest ws = Option·map tellMean (onlyByte ws)
+-- "As for `text`."
+commandBy Screen rest ws = some (screenText (drop 1 rest))
 commandBy Other rest ws = none
 
 abbrev pub commandFrom : List ℕ → List (List ℕ) → Option Command

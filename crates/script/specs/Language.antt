@@ -10,7 +10,7 @@ use Rattle.ipl.specs.Authors.{program}
 use Rattle.ipl.specs.Book.{addFlat, addImplication, add, question, setMark, returnTo, page}
 use Rattle.text.specs.Text.{ascii, hex}
 use Rattle.script.specs.Words.{space, wordsOf}
-use Rattle.script.specs.Command.{Command, openSession, readText, callBook, tellLength, writeSheet, checkSheet, tellMean, byteIn, setIn, command, longestCall, lineOf}
+use Rattle.script.specs.Command.{Command, openSession, readText, callBook, tellLength, writeSheet, checkSheet, tellMean, screenText, byteIn, setIn, command, longestCall, lineOf}
 
 -- The line is this call.
 pub data Says (line : List ℕ) : Command → Type 0 where
@@ -44,6 +44,9 @@ pub data Says (line : List ℕ) : Command → Type 0 where
   checks-nothing : wordsOf line ≡ ascii "check" ∷ [] → Says line (checkSheet [])
   -- `mean A`
   tells-mean : (A : List ℕ) (a : ℕ) → wordsOf line ≡ ascii "mean" ∷ A ∷ [] → byteIn A ≡ some a → Says line (tellMean a)
+  -- `screen FORMULA`, and `screen` alone
+  screens : (spaces : ℕ) (formula : List ℕ) → line ≡ replicate spaces space ++ ascii "screen " ++ formula → Says line (screenText formula)
+  screens-nothing : (spaces : ℕ) → line ≡ replicate spaces space ++ ascii "screen" → Says line (screenText [])
 
 -- The lines that are calls are those that a row has, of at most 32,768 bytes.
 abbrev pub CallsAreSaid : Type 0

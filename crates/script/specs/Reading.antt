@@ -10,7 +10,7 @@ use Rattle.ipl.specs.Book.{addFlat, addImplication, add, question, setMark, ret
 use Rattle.prover.specs.Calls.{flatOf}
 use Rattle.script.specs.Numbers.{paired}
 use Rattle.script.specs.Words.{wordsOf}
-use Rattle.script.specs.Command.{Command, Line, silent, command, noCall, openSession, readText, callBook, tellLength, writeSheet, checkSheet, tellMean}
+use Rattle.script.specs.Command.{Command, Line, silent, command, noCall, openSession, readText, callBook, tellLength, writeSheet, checkSheet, tellMean, screenText}
 use Rattle.script.specs.Command.{end, GoalList, pageIn, commandBy, orNone, lineOf}
 use Rattle.script.specs.Places.{between}
 use Rattle.script.specs.declared.reading.Goals.{Goals}
@@ -53,6 +53,7 @@ meaning line code.Length = command tellLength
 meaning line code.Sheet = command writeSheet
 meaning line (code.Check start end) = command (checkSheet (paired (between start end line)))
 meaning line (code.Mean a) = command (tellMean a)
+meaning line (code.Screen start) = command (screenText (drop start line))
 
 -- The places are in the line.
 abbrev pub Inside : List ℕ → Call → Type 0
@@ -70,6 +71,7 @@ Inside line code.Length = Unit {0}
 Inside line code.Sheet = Unit {0}
 Inside line (code.Check start end) = (start ≤ end) × (end ≤ length line)
 Inside line (code.Mean a) = Unit {0}
+Inside line (code.Screen start) = start ≤ length line
 
 -- The calls that need large tables are calls.
 abbrev pub asCall : Large → Call
@@ -77,6 +79,7 @@ asCall (large.Text start) = code.Text start
 asCall (large.Page start) = code.Page start
 asCall large.Sheet = code.Sheet
 asCall (large.Check start end) = code.Check start end
+asCall (large.Screen start) = code.Screen start
 
 -- The value says what a line is.
 pub record Means (line : List ℕ) (l : Line) (r : Call) : Type 0 where
@@ -89,6 +92,11 @@ ReadAs line r = Means line (lineOf line) r
 -- The same of a call by its verb, whose word ends at a place.
 abbrev pub Arguments : Verb → List ℕ → ℕ → Call → Type 0
 Arguments verb line from r = Means line (orNone (commandBy verb (drop from line) (wordsOf (drop from line)))) r
+
+-- A text starts at a place: one space behind the word that ends at another.
+pub record Behind (line : List ℕ) (from r : ℕ) : Type 0 where
+  pub rest-is : drop r line ≡ drop 1 (drop from line)
+  pub inside : r ≤ length line
 
 -- A call is complete where no word follows.
 pub record Completes (line : List ℕ) (from : ℕ) (call r : Call) : Type 0 where

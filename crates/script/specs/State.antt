@@ -30,8 +30,9 @@ use Rattle.text.specs.Text.{ascii, labelled, hex}
 use Rattle.judgement.specs.Report.{checkReport}
 use Rattle.certificate.specs.Format.{each}
 use Rattle.report.specs.Report.{worldLine, textRefusal}
+use Rattle.report.specs.Screening.{screenLine}
 use Rattle.report.specs.Printed.{printedEnd}
-use Rattle.script.specs.Command.{Command, openSession, readText, callBook, tellLength, writeSheet, checkSheet, tellMean, Line, silent, command, noCall}
+use Rattle.script.specs.Command.{Command, openSession, readText, callBook, tellLength, writeSheet, checkSheet, tellMean, screenText, Line, silent, command, noCall}
 
 -- The book, the work of the authors, and the problem and answer of the verdict held.
 pub record State : Type 0 where
@@ -54,6 +55,7 @@ next σ tellLength = σ
 next σ writeSheet = σ
 next σ (checkSheet bytes) = σ
 next σ (tellMean a) = σ
+next σ (screenText s) = σ
 
 -- ---- what it prints
 
@@ -127,6 +129,7 @@ printedCommand σ tellLength = lengthLine (toldOf (σ .answered))
 printedCommand σ writeSheet = sheetLine (σ .answered)
 printedCommand σ (checkSheet bytes) = checkReport (sheets.judge bytes)
 printedCommand σ (tellMean a) = meanLine (meanBy (meanRefusal (σ .work) a) (σ .work) a)
+printedCommand σ (screenText s) = screenLine s
 
 -- "`line K is no call`."
 abbrev pub noCallLine : ℕ → List ℕ

@@ -18,6 +18,7 @@ ghost use Rattle.certify.specs.Written.{lengthTold};
 ghost use Rattle.text.specs.Text.{decimal};
 ghost use Rattle.text.specs.Output.{Appends};
 ghost use Rattle.judgement.specs.Report.{checkReport};
+ghost use Rattle.report.specs.Screening.{screenLine};
 ghost use Rattle.script.specs.Numbers.{paired};
 ghost use Rattle.script.specs.Command.{openSession, readText, callBook};
 ghost use Rattle.script.specs.Places.{between};
@@ -38,6 +39,7 @@ enum Large {
     Page(usize),
     Sheet,
     Check(usize, usize),
+    Screen(usize),
 }
 
 // A number between two words.
@@ -117,6 +119,14 @@ fn check(line: &[u8], start: usize, end: usize, output: &mut [u8]) -> usize
     let mut sheet = [0u8; text::DRAFT];
     let size = numbers::unhex(&line[start..end], &mut sheet);
     judgement::write(output, certificate::check(&sheet[..size]))
+}
+
+// The text starts at a place of the line.
+fn screen(line: &[u8], start: usize, output: &mut [u8]) -> usize
+    requires { ⌜ start ≤ length (now line) ⌝ }
+    ensures { λ r. ⌜ Appends (screenLine (drop start (now (line .entry)))) (now (output .entry)) 0 (now (output .exit)) r ⌝ }
+{
+    report::screenings::write(output, fork::screen(&line[start..]))
 }
 
 fn open(n: u8, output: &mut [u8]) -> Answer
@@ -216,6 +226,10 @@ fn answer_large(s: Session, line: &[u8], call: Large, output: &mut [u8]) -> Answ
             session: s,
             length: check(line, start, end, output),
         },
+        Large::Screen(start) => Answer {
+            session: s,
+            length: screen(line, start, output),
+        },
     }
 }
 
@@ -252,5 +266,6 @@ pub fn answer_line(s: Session, number: u64, line: &[u8], p: Pending, output: &mu
             session: s,
             length: write_mean(s, author, output),
         },
+        Call::Screen(start) => answer_large(s, kept, Large::Screen(start), output),
     }
 }

@@ -10,7 +10,7 @@ ghost use lib.ListN.{length, drop};
 ghost use Rattle.script.specs.Words.{wordsOf};
 ghost use Rattle.script.specs.Command.{byteIn, setIn, onlyByte, authorIn, authored, pageIn, verbOf};
 ghost use Rattle.script.specs.Places.{byteOf, byteTaken, setTaken, noWord, Takes};
-ghost use Rattle.script.specs.Reading.{GoalsAre, GoalsRead, Completes, Arguments, ReadAs};
+ghost use Rattle.script.specs.Reading.{GoalsAre, GoalsRead, Completes, Behind, Arguments, ReadAs};
 
 // The most bytes of a call, without the byte 10 that ends its line.
 pub const MOST_BYTES: usize = 32768;
@@ -28,6 +28,7 @@ pub enum Verb {
     Sheet,
     Check,
     Mean,
+    Screen,
     Other,
 }
 
@@ -39,7 +40,7 @@ pub struct Goals {
     pub rows: [u8; ipl::GOALS + 1],
 }
 
-// What a line asks for: of a question the author stands first; a text and the goals of a page start at a place, a sheet's digits stand
+// What a line asks for: of a question the author stands first; texts and the goals of a page start at a place, a sheet's digits stand
 // between two places.
 pub enum Call {
     Silent,
@@ -56,6 +57,7 @@ pub enum Call {
     Sheet,
     Check(usize, usize),
     Mean(u8),
+    Screen(usize),
 }
 
 // An argument's value and the place behind it, or no such argument.
@@ -107,6 +109,9 @@ fn verb_of(word: &[u8]) -> Verb
     }
     if check::same(word, b"mean") {
         return Verb::Mean;
+    }
+    if check::same(word, b"screen") {
+        return Verb::Screen;
     }
     Verb::Other
 }
@@ -189,15 +194,15 @@ fn open(line: &[u8], from: usize) -> Call
     }
 }
 
-// Behind the word and one space, or at the line's end.
-fn text(line: &[u8], from: usize) -> Call
+// The place behind the word and one space, or the line's end.
+fn behind(line: &[u8], from: usize) -> usize
     requires { ⌜ from ≤ length (now line) ⌝ }
-    ensures { λ r. ⌜ Arguments Verb.Text (now (line .entry)) from r ⌝ }
+    ensures { λ r. ⌜ Behind (now (line .entry)) from r ⌝ }
 {
     if from < line.len() {
-        return Call::Text(from + 1);
+        return from + 1;
     }
-    Call::Text(from)
+    from
 }
 
 fn flat(line: &[u8], from: usize) -> Call
@@ -372,7 +377,7 @@ fn call_of(verb: Verb, line: &[u8], from: usize) -> Call
 {
     match verb {
         Verb::Open => open(line, from),
-        Verb::Text => text(line, from),
+        Verb::Text => Call::Text(behind(line, from)),
         Verb::Flat => flat(line, from),
         Verb::Implication => implication(line, from),
         Verb::Ask => ask(line, from),
@@ -383,6 +388,7 @@ fn call_of(verb: Verb, line: &[u8], from: usize) -> Call
         Verb::Sheet => if_last(line, from, Call::Sheet),
         Verb::Check => check_sheet(line, from),
         Verb::Mean => mean(line, from),
+        Verb::Screen => Call::Screen(behind(line, from)),
         Verb::Other => Call::NoCall,
     }
 }

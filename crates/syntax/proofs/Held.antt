@@ -9,7 +9,7 @@ use native.Mathlib.Omega.{arith}
 use lib.ListN.{length, getD, take, drop, set, length-set, length-append, length-map, List·getD-map, drop-of-length-le}
 use lib.Seq.{length-take-le, take-suc-set, getD-take, drop-cons}
 use borrow.Author.Tests.{lt-ltb, le-ltb}
-use Rattle.ipl.proofs.Lists.{map-snoc}
+use Rattle.ipl.proofs.Lists.{read-within, map-snoc}
 use Rattle.syntax.specs.Nodes.{Connective, And, Implies, Entry, falsum, compound, Named, same, indexOf, withEntry, named, Once}
 use Rattle.syntax.specs.Parts.{connectiveOf, entryOf, held, room, Sound}
 use Rattle.syntax.specs.Table.{Names, Makes, withPart, withCompound, withNegation, withEquivalence}
@@ -35,6 +35,9 @@ module _ (p : Parts) (s : Sound p) where
 
   pub held-at : (i : ℕ) (n : Node) → i < p .count → getD (held p) i (entryAt n) ≡ entryAt (getD (p .nodes) i n)
   held-at i n h = List·getD-map entryAt (take (p .count) (p .nodes)) i n ∙ ap entryAt (getD-take (p .count) (p .nodes) i n h)
+
+  pub held-row : (i : ℕ) (n : Node) → i < p .count → getD (held p) i falsum ≡ entryAt (getD (p .nodes) i n)
+  held-row i n h = read-within (held p) i falsum (entryAt n) (rw held-length h) ∙ held-at i n h
 
   -- A row more.
   module _ (e : Part) (i : ℕ) (last : i ≡ p .count) (h : i < room) where

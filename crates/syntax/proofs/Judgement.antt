@@ -10,6 +10,7 @@ use Rattle.ipl.specs.Formula.{Formula}
 use Rattle.syntax.specs.Class.{tokens}
 use Rattle.syntax.specs.Code.{codeOf}
 use Rattle.syntax.specs.Grammar.{equivalence, Reads}
+use Rattle.syntax.specs.Letters.{lettersOf, letterCount}
 use Rattle.syntax.specs.Nodes.{Entry, Named, withFormula, nodes, named, Once}
 use Rattle.syntax.specs.Refusal.{mostBytes, BadLength, TooDeep, Longest, mostNames, Refused, line-2, line-3, line-4, Decides}
 use Rattle.syntax.specs.Scan.{ends, Scanned, scanned}
@@ -49,7 +50,11 @@ module _ (s : List ℕ) where
       }
 
   pub answer-refused : (n place : ℕ) (r : Reading) → Refused s n place → Refuses n place r → Answers s r
-  answer-refused n place r x k = subst (λ (o : Outcome). AnswersWith s o (r .parts)) (sym (k .outcome-is)) (x, k .empty)
+  unfolding lettersOf
+  answer-refused n place r x k = record {
+    answer = subst (λ (o : Outcome). AnswersWith s o (r .parts)) (sym (k .outcome-is)) (x, k .empty);
+    counted = k .letterless ∙ sym (ap letterCount (k .empty .none));
+  }
 
   -- Line 1.
   pub length-right : (length s ≡ 0 → ⊥) → length s ≤ mostBytes → BadLength s → ⊥

@@ -11,6 +11,7 @@ pub mod Stands
 pub mod Sharing
 pub mod Names
 pub mod Held
+pub mod LetterCount
 pub mod Derivations
 pub mod Joined
 pub mod Grouped

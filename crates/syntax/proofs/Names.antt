@@ -44,7 +44,7 @@ falsum-present (falsum ∷ T) h = omega arith
 falsum-present (compound c a b ∷ T) h = falsum-present T (omega arith)
 
 -- ⊥ stands at most once.
-once-tail : (x : Entry) (T : List Entry) → Once (x ∷ T) → Once T
+pub once-tail : (x : Entry) (T : List Entry) → Once (x ∷ T) → Once T
 unfolding indexOf
 once-tail x T o i h =
     by-cond (λ (n : ℕ). n ≡ suc i → indexOf (getD T i falsum) T ≡ i) (same x (getD T i falsum)) 0 (suc (indexOf (getD T i falsum) T))

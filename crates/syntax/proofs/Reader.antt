@@ -7,9 +7,10 @@ use native.Mathlib.Omega.{arith}
 use Rattle.ipl.specs.Formula as ipl
 use Rattle.syntax.specs.Grammar.{Reads}
 use Rattle.syntax.specs.Nodes.{Named, nodes}
+use Rattle.syntax.specs.Letters.{letterCount}
 use Rattle.syntax.specs.Refusal.{TooLarge, Longest, Line, by-length, by-depth, by-grammar, by-size, Refused, line-1, line-2, line-3, line-4, Accepted}
 use Rattle.syntax.specs.Parts.{held}
-use Rattle.syntax.specs.Answer.{AnswersWith, Answers}
+use Rattle.syntax.specs.Answer.{Read, AnswersWith, Answers}
 use Rattle.syntax.specs.declared.Outcome.{Outcome}
 use Rattle.syntax.specs.declared.Outcome.the-variants.{Refusal, Formula}
 use Rattle.syntax.specs.declared.Parts.{Parts}
@@ -79,9 +80,11 @@ module _ (s : List ℕ) where
       let e : nodes (a .formula) ≡ nodes (b .formula) = ap nodes (unique s (a .formula) (b .formula) (a .accepted .reads) (b .accepted .reads)) in
       (ap Formula (a .root-is ∙ ap (λ (n : Named). n .root) e ∙ sym (b .root-is)), a .table-is ∙ ap (λ (n : Named). n .table) e ∙ sym (b .table-is))
 
-  -- The contract leaves one answer: outcome, and rows held.
-  pub one-answer : (a b : Reading) → Answers s a → Answers s b → (a .outcome ≡ b .outcome) × (held (a .parts) ≡ held (b .parts))
-  one-answer a b x y = outcomes (a .outcome) (a .parts) (b .outcome) (b .parts) x y
+  -- The contract leaves one answer: outcome, rows held, and letters.
+  pub one-answer : (a b : Reading) → Answers s a → Answers s b → (a .outcome ≡ b .outcome) × (held (a .parts) ≡ held (b .parts)) × (a .letters ≡ b .letters)
+  one-answer a b x y =
+      let same = outcomes (a .outcome) (a .parts) (b .outcome) (b .parts) (x .answer) (y .answer) in
+      (same .0, same .1, x .counted ∙ ap letterCount (same .1) ∙ sym (y .counted))
 
   -- "Each number comes when its line holds and no earlier one does, and only then."
   first-line : (o : Outcome) (p : Parts) → AnswersWith s o p → (n : ℕ) → Line s n → ((m : ℕ) → Line s m → n ≤ m) → (place : ℕ) × (o ≡ Refusal n place)
@@ -92,11 +95,11 @@ module _ (s : List ℕ) where
   refusal-line o p a n place e = let x = subst (λ (q : Outcome). AnswersWith s q p) e a in (only-then (x .0), λ m l. none-before (x .0) l)
 
   pub refused-exactly : (r : Reading) → Answers s r → (n : ℕ) → ((place : ℕ) × (r .outcome ≡ Refusal n place)) ↔ (Line s n × ((m : ℕ) → Line s m → n ≤ m))
-  refused-exactly r a n = (λ x. refusal-line (r .outcome) (r .parts) a n (x .0) (x .1), λ x. first-line (r .outcome) (r .parts) a n (x .0) (x .1))
+  refused-exactly r a n = (λ x. refusal-line (r .outcome) (r .parts) (a .answer) n (x .0) (x .1), λ x. first-line (r .outcome) (r .parts) (a .answer) n (x .0) (x .1))
 
   -- "3: .. with the length of the longest beginning that begins some formula"
   pub place-longest : (r : Reading) → Answers s r → (place : ℕ) → r .outcome ≡ Refusal 3 place → Longest s place
-  place-longest r a place e = go (subst (λ (q : Outcome). AnswersWith s q (r .parts)) e a .0)
+  place-longest r a place e = go (subst (λ (q : Outcome). AnswersWith s q (r .parts)) e (a .answer) .0)
     where
       go : Refused s 3 place → Longest s place
       go (line-3 l d g p) = p
@@ -109,7 +112,14 @@ module _ (s : List ℕ) where
       (ap Formula (a .root-is ∙ ap (λ (n : Named). n .root) e), a .table-is ∙ ap (λ (n : Named). n .table) e)
 
   pub accepted-read : (r : Reading) → Answers s r → (t : ipl.Formula) → Accepted s t → (r .outcome ≡ Formula (nodes t .root)) × (held (r .parts) ≡ nodes t .table)
-  accepted-read r a t x = accepts (r .outcome) (r .parts) a t x
+  accepted-read r a t x = accepts (r .outcome) (r .parts) (a .answer) t x
 
   pub read-accepted : (r : Reading) → Answers s r → (i : ℕ) → r .outcome ≡ Formula i → (t : ipl.Formula) × Accepted s t
-  read-accepted r a i e = let x = subst (λ (q : Outcome). AnswersWith s q (r .parts)) e a in (x .formula, x .accepted)
+  read-accepted r a i e = let x = subst (λ (q : Outcome). AnswersWith s q (r .parts)) e (a .answer) in (x .formula, x .accepted)
+
+-- By the outcome.
+pub read-as : (s : List ℕ) (o : Outcome) (p : Parts) → AnswersWith s o p → (root : ℕ) → o ≡ Formula root → Read s root p
+read-as s o p h root e = subst (λ (o : Outcome). AnswersWith s o p) e h
+
+pub refused-as : (s : List ℕ) (o : Outcome) (p : Parts) → AnswersWith s o p → (number place : ℕ) → o ≡ Refusal number place → Refused s number place
+refused-as s o p h number place e = subst (λ (o : Outcome). AnswersWith s o p) e h .0

@@ -4,6 +4,7 @@ use mathlib.Core.Path.{_≡_}
 use Prim.Native.Nat.{ℕ}
 use Rattle.ipl.specs.Formula as ipl
 use Rattle.syntax.specs.Nodes.{nodes}
+use Rattle.syntax.specs.Letters.{letterCount}
 use Rattle.syntax.specs.Refusal.{Refused, Accepted}
 use Rattle.syntax.specs.Parts.{held, Sound, Empty}
 use Rattle.syntax.specs.declared.Parts.{Parts}
@@ -23,10 +24,13 @@ abbrev pub AnswersWith : List ℕ → Outcome → Parts → Type 0
 AnswersWith s (Refusal number place) p = Refused s number place × Empty p
 AnswersWith s (Formula root) p = Read s root p
 
-abbrev pub Answers : List ℕ → Reading → Type 0
-Answers s r = AnswersWith s (r .outcome) (r .parts)
+-- The letters are told with the parts; a refused text has none.
+pub record Answers (s : List ℕ) (r : Reading) : Type 0 where
+  pub answer : AnswersWith s (r .outcome) (r .parts)
+  pub counted : r .letters ≡ letterCount (held (r .parts))
 
 -- A refusal's answer has no parts.
 pub record Refuses (number place : ℕ) (r : Reading) : Type 0 where
   pub outcome-is : r .outcome ≡ Refusal number place
   pub empty : Empty (r .parts)
+  pub letterless : r .letters ≡ 0

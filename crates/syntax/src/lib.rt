@@ -1,8 +1,12 @@
 // The reader of formula text: any bytes to the parts of a formula, or the first refusal of 1 to 4 that the text meets.
+ghost use mathlib.Core.Path.{_≡_};
 ghost use Rattle.syntax.specs.Answer.{Answers, Refuses};
+ghost use Rattle.syntax.specs.Letters.{lettersIn};
+ghost use Rattle.syntax.specs.Parts.{entryOf};
 
 mod bytes;
 mod descent;
+mod letters;
 mod parentheses;
 mod scan;
 mod table;
@@ -44,9 +48,11 @@ pub enum Outcome {
     Formula(u8),
 }
 
+// The parts, and how many of them are letters.
 pub struct Reading {
     pub outcome: Outcome,
     pub parts: Parts,
+    pub letters: u8,
 }
 
 fn refused(number: u8, place: usize) -> Reading
@@ -55,6 +61,18 @@ fn refused(number: u8, place: usize) -> Reading
     Reading {
         outcome: Outcome::Refusal(number, place),
         parts: table::empty(),
+        letters: 0,
+    }
+}
+
+// A letter is one, and no other part is.
+pub fn letters_in(part: Part) -> u8
+    ensures { λ r. ⌜ r ≡ lettersIn (entryOf part) ⌝ }
+{
+    match part {
+        Part::Letter(_) => 1,
+        Part::Falsum => 0,
+        Part::Compound(_, _, _) => 0,
     }
 }
 
@@ -85,5 +103,6 @@ pub fn read(text: &[u8]) -> Reading
     Reading {
         outcome: Outcome::Formula(whole.root),
         parts,
+        letters: letters::letter_count(parts),
     }
 }

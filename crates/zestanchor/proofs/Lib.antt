@@ -1,4 +1,5 @@
--- Laws of the tasks, and the theorem on what is written.
+-- Laws of the tasks, the theorem on what is written, and the one on formulas that fall.
 pub mod Sheet
 pub mod Tasks
 pub mod DemandTwo
+pub mod Screening

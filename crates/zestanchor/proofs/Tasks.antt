@@ -14,12 +14,14 @@ use Rattle.zestanchor.specs.Tasks.{orElse, certified, noTask, Done}
 pub done-as : (task k : ℕ) (input entry exit : List ℕ) (r : ℕ) → task ≡ k → Done k input entry exit r → Done task input entry exit r
 done-as task k input entry exit r e d = subst (λ (t : ℕ). Done t input entry exit r) (sym e) d
 
-pub nothing-done : (task : ℕ) (input entry : List ℕ) → (task ≡ 0 → ⊥) → (task ≡ 1 → ⊥) → (task ≡ 2 → ⊥) → (task ≡ 3 → ⊥) → Done task input entry entry noTask
-nothing-done zero input entry a b c d = absurd (a refl)
-nothing-done (suc zero) input entry a b c d = absurd (b refl)
-nothing-done (suc (suc zero)) input entry a b c d = absurd (c refl)
-nothing-done (suc (suc (suc zero))) input entry a b c d = absurd (d refl)
-nothing-done (suc (suc (suc (suc task)))) input entry a b c d = (refl, refl)
+pub nothing-done : (task : ℕ) (input entry : List ℕ) → (task ≡ 0 → ⊥) → (task ≡ 1 → ⊥) → (task ≡ 2 → ⊥) → (task ≡ 3 → ⊥) → (task ≡ 4 → ⊥)
+    → Done task input entry entry noTask
+nothing-done zero input entry a b c d e = absurd (a refl)
+nothing-done (suc zero) input entry a b c d e = absurd (b refl)
+nothing-done (suc (suc zero)) input entry a b c d e = absurd (c refl)
+nothing-done (suc (suc (suc zero))) input entry a b c d e = absurd (d refl)
+nothing-done (suc (suc (suc (suc zero)))) input entry a b c d e = absurd (e refl)
+nothing-done (suc (suc (suc (suc (suc task))))) input entry a b c d e = (refl, refl)
 
 -- ---- the length that task 1 gives
 

@@ -11,7 +11,8 @@ ghost use Rattle.text.specs.Output.{Gives};
 ghost use Rattle.report.specs.Printed.{printed, sheet};
 ghost use Rattle.zestanchor.specs.Tasks.{certified, sizeOf, Done};
 
-// The report of a text; the sheet of its verdict or its refusal; the report of a checked sheet; how long what task 1 gives is.
+// The report of a text; the sheet of its verdict or its refusal; the report of a checked sheet; how long what task 1 gives is; the
+// screen of a text.
 const SETTLE: u8 = 0;
 
 const CERTIFY: u8 = 1;
@@ -19,6 +20,8 @@ const CERTIFY: u8 = 1;
 const CHECK: u8 = 2;
 
 const LENGTH: u8 = 3;
+
+const SCREEN: u8 = 4;
 
 // What any other task returns.
 const NO_TASK: usize = 0xffff_ffff_ffff_ffff;
@@ -101,6 +104,9 @@ pub extern "C" fn zestanchor(task: u8, input: &[u8], output: &mut [u8]) -> usize
     }
     if task == LENGTH {
         return certified_length(input);
+    }
+    if task == SCREEN {
+        return report::screenings::screen(input, output);
     }
     NO_TASK
 }

@@ -64,9 +64,15 @@ returns-6 c =
 
 returns-7 : tie.Need-returns-7
 returns-7 c =
-    let named = c .before in
+    let named = c .before .before in
     let test = named .before .before in
-    accepted _ _ _ (descended (test .before .before)) (not-false _ (test .if4 .left)) _ (named .names .ensures) (c .if5 .left)
+    record {
+      answer = accepted _ _ _ (descended (test .before .before)) (not-false _ (test .if4 .left)) _ (named .names .ensures) (c .before .if5 .left);
+      counted = c .letter-count .ensures;
+    }
+
+letter-count-requires : tie.Need-letter-count-requires
+letter-count-requires c κs = descended (c .before .before .before .before .before) .gives .sound
 
 pub read-spec : {M : Type 1} → statement M
 read-spec =
@@ -91,4 +97,5 @@ read-spec =
     names-requires
     (λ c κs. search needs)
     returns-6
+    letter-count-requires
     returns-7)

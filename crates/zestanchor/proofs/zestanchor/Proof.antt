@@ -6,7 +6,6 @@ use Rattle.zestanchor.proofs.Tasks.{done-as, nothing-done}
 use borrow.Author.Needs.{needs}
 use Rattle.zestanchor.proofs.zestanchor.Statement.{statement}
 use Rattle.zestanchor.proofs.zestanchor.Tie as tie
-use Rattle.zestanchor.proofs.settle.Reads as settle-reads′
 
 returns : tie.Need-returns
 returns c =
@@ -19,7 +18,8 @@ returns-2 c =
     let settled = c .before .before .before .before in
     let chosen = settled .before in
     let given = chosen .before .before .before .before .args in
-    done-as (given .task) 1 (now (given .input)) _ _ _ (chosen .if2 .taken) (c .before .before .write-certified .ensures (now (given .input)) (settled .settle2 .ensures))
+    done-as (given .task) 1 (now (given .input)) _ _ _ (chosen .if2 .taken)
+    (c .before .before .write-certified .ensures (now (given .input)) (settled .settle2 .ensures))
 
 returns-3 : tie.Need-returns-3
 returns-3 c =
@@ -35,8 +35,16 @@ returns-4 c =
 
 returns-5 : tie.Need-returns-5
 returns-5 c =
-    let given = c .before .before .before .before .before .before .args in
-    nothing-done (given .task) (now (given .input)) _ (c .before .before .before .if1 .left) (c .before .before .if2 .left) (c .before .if3 .left) (c .if4 .left)
+    let chosen = c .before .before .before .before in
+    let given = chosen .before .before .before .before .before .before .before .args in
+    done-as (given .task) 4 (now (given .input)) _ _ _ (chosen .if5 .taken) (c .before .before .screen .ensures)
+
+returns-6 : tie.Need-returns-6
+returns-6 c =
+    let given = c .before .before .before .before .before .before .before .args in
+    let third = c .before .before in
+    nothing-done (given .task) (now (given .input)) _ (third .before .before .if1 .left) (third .before .if2 .left) (third .if3 .left)
+    (c .before .if4 .left) (c .if5 .left)
 
 pub zestanchor-spec : {M : Type 1} → statement M
 zestanchor-spec =
@@ -54,4 +62,7 @@ zestanchor-spec =
     returns-3
     (λ c κs. search needs)
     returns-4
-    returns-5)
+    (λ c κs. search needs)
+    (λ c. search needs)
+    returns-5
+    returns-6)

@@ -1,10 +1,11 @@
 //! Times the proved library, the whole program `settle` and the second implementation side by side, formula by formula,
-//! and prints one table in milliseconds; then calls on a session beside scripts of them, and pages of goals beside single
-//! questions. The path of `settle` may be given as an argument.
+//! and prints one table in milliseconds; then calls on a session beside scripts of them, pages of goals beside single
+//! questions, and screenings. The path of `settle` may be given as an argument.
 
 mod calls;
 mod clock;
 mod pages;
+mod screenings;
 mod scripts;
 mod sets;
 
@@ -26,26 +27,31 @@ fn main() {
     println!("{:<30} {:>8} {figures} {figures} {figures}", "", "formulas");
     let sets =
         [("random, of the usual size", sets::usual_size(300)), ("ILTP", sets::iltp()), ("patterns", sets::patterns())];
+    let second = |formula: &[u8]| report(&settle_text(formula)).into_bytes();
     for (name, formulas) in &sets {
-        let times = timed(&program, formulas);
-        let columns = [0, 1, 2].map(|side| column(&Vec::from_iter(times.iter().map(|t| t[side]))));
-        println!("{name:<30} {:>8} {}", formulas.len(), columns.join(" "));
+        let times = timed([&|f| call(Task::Settle, f), &|f| run(&program, f), &second], formulas);
+        println!("{name:<30} {:>8} {}", formulas.len(), columns(&times));
     }
     println!();
     scripts::print_times();
     println!();
     pages::print_times(&sets);
+    println!();
+    screenings::print_times();
+    println!();
+    screenings::print_counts();
 }
+
+/// One way to what is printed of a formula.
+type Side<'a> = &'a dyn Fn(&[u8]) -> Vec<u8>;
 
 /// For each formula and side the best of some turns; a turn is all formulas on one side after the other, so that a slow
 /// moment of the machine spoils one turn of a formula at most. The sides must agree.
-fn timed(program: &str, formulas: &[Vec<u8>]) -> Vec<[f64; 3]> {
-    let second = |formula: &[u8]| report(&settle_text(formula)).into_bytes();
-    let sides: [&dyn Fn(&[u8]) -> Vec<u8>; 3] = [&|f| call(Task::Settle, f), &|f| run(program, f), &second];
-    let wanted: Vec<Vec<u8>> = formulas.iter().map(|f| second(f)).collect();
-    let mut best = vec![[f64::INFINITY; 3]; formulas.len()];
-    for turn in 0..TURNS * sides.len() {
-        let side = turn % sides.len();
+fn timed<const SIDES: usize>(sides: [Side; SIDES], formulas: &[Vec<u8>]) -> Vec<[f64; SIDES]> {
+    let wanted: Vec<Vec<u8>> = formulas.iter().map(|f| sides[SIDES - 1](f)).collect();
+    let mut best = vec![[f64::INFINITY; SIDES]; formulas.len()];
+    for turn in 0..TURNS * SIDES {
+        let side = turn % SIDES;
         for (place, formula) in formulas.iter().enumerate() {
             let start = Instant::now();
             let printed = sides[side](formula);
@@ -63,6 +69,11 @@ fn timed(program: &str, formulas: &[Vec<u8>]) -> Vec<[f64; 3]> {
 /// What the program prints of a formula on its standard input.
 fn run(program: &str, formula: &[u8]) -> Vec<u8> {
     program::run(program, &[], &[formula, b"\n"].concat()).stdout
+}
+
+fn columns<const SIDES: usize>(times: &[[f64; SIDES]]) -> String {
+    let side = |side: usize| column(&Vec::from_iter(times.iter().map(|times| times[side])));
+    Vec::from_iter((0..SIDES).map(side)).join(" ")
 }
 
 fn column(figures: &[f64]) -> String {

@@ -1,6 +1,7 @@
 //! One input through both implementations; a difference ends the program.
 
 use outside::certificate;
+use outside::fork::screen_line;
 use outside::proved::{call_into, Task, FIRST_UNKNOWN, NO_TASK, ROOM};
 use outside::random::Random;
 use outside::refusal::Refusal;
@@ -34,6 +35,7 @@ pub fn settle(input: &[u8]) -> Result<Settled, Refusal> {
     gives(Task::Certify, input, &wanted, &mut random);
     let room = random.below(wanted.len() + 2);
     leaves(Task::Length as u8, input, room, wanted.len());
+    gives(Task::Screen, input, screen_line(input).as_bytes(), &mut random);
     unknown(input, &mut random);
     outcome
 }

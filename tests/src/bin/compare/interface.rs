@@ -3,6 +3,7 @@
 use crate::both::{leaves, writes};
 use crate::Counts;
 use outside::certificate;
+use outside::fork::screen_line;
 use outside::proved::{Task, FIRST_UNKNOWN, NO_TASK};
 use outside::report::{certified, report, settle_text};
 
@@ -15,6 +16,7 @@ pub fn compare(counts: &mut Counts) {
         each_room(Task::Settle, text, report(&outcome).as_bytes(), counts);
         each_room(Task::Certify, text, &sheet, counts);
         each_room(Task::Check, &sheet, certificate::verdict_line(&sheet).as_bytes(), counts);
+        each_room(Task::Screen, text, screen_line(text).as_bytes(), counts);
         for room in 0..sheet.len() + 2 {
             leaves(Task::Length as u8, text, room, sheet.len());
             counts.calls += 1;

@@ -47,7 +47,7 @@ pub fn damaged_sheets() -> Vec<u8> {
 
 /// Lines about as long as a line may be and far longer: calls, comments, blank ones and others.
 pub fn long_lines() -> Vec<u8> {
-    let forms: [(&[u8], u8, &[u8]); 18] = [
+    let forms: [(&[u8], u8, &[u8]); 19] = [
         (b"open ", b'0', b"7"),
         (b"open 7", b' ', b""),
         (b"", b' ', b"open 7"),
@@ -56,6 +56,7 @@ pub fn long_lines() -> Vec<u8> {
         (b"flat 1 ", b'0', b"18446744073709551615"),
         (b"text ", b' ', b"p"),
         (b"text ", b'~', b"p"),
+        (b"screen ", b' ', b"p"),
         (b"check ", b'0', b""),
         (b"check 0", b'0', b""),
         (b"ask 0", b' ', b"by 7"),

@@ -10,18 +10,20 @@ use std::iter;
 /// How often each kind of answer was met.
 pub type Tally = BTreeMap<String, usize>;
 
-/// All that a script can meet. Refusal 10 is of lent bytes, and a script lends none; three calls can meet 20.
+/// All that a script can meet. Refusal 10 is of lent bytes, and a script lends none; three calls can meet 20, and two those of a text.
 pub fn kinds() -> Vec<String> {
-    const WORDS: [&str; 10] =
-        ["nothing", "no call", "done", "goal", "length", "sheet", "valid", "refuted", "page", "empty page"];
+    const WORDS: [&str; 11] =
+        ["nothing", "no call", "done", "goal", "length", "sheet", "valid", "refuted", "page", "empty page", "passes"];
     const ON_PAGES: [&str; 5] = ["valid", "refuted", "refuted by another", "refused 11", "refused 12"];
     let refused = (1..=21).filter(|number| ![10, 20].contains(number)).map(|number| format!("refused {number}"));
     let no_author = ["ask", "page", "mean"].map(|call| format!("{call} refused 20"));
+    let falls = (0..=3).map(|count| format!("falls with {count} sets"));
+    let not_screened = [1, 2, 3, 4, 22].map(|number| format!("screen refused {number}"));
     let accepted = ["accepted valid", "accepted refuted"].map(String::from);
     let means = ["mean", "mean with a remainder"].map(String::from);
     let on_pages = ON_PAGES.map(|word| format!("on a page {word}"));
-    let words = WORDS.map(String::from).into_iter();
-    words.chain(accepted).chain(means).chain(refused).chain(no_author).chain(on_pages).collect()
+    let words = WORDS.map(String::from).into_iter().chain(accepted).chain(means).chain(falls);
+    words.chain(refused).chain(no_author).chain(not_screened).chain(on_pages).collect()
 }
 
 fn kind(line: &[u8], answer: &str) -> String {
@@ -34,7 +36,9 @@ fn kind(line: &[u8], answer: &str) -> String {
         ["goal", _, _, ..] => "page".into(),
         ["mean", _, _, "0"] => "mean".into(),
         ["mean", ..] => "mean with a remainder".into(),
+        ["falls", ref sets @ ..] => format!("falls with {} sets", sets.len()),
         ["refused", "20"] => format!("{} refused 20", call.escape_ascii()),
+        ["refused", number, ..] if call == b"screen" => format!("screen refused {number}"),
         [word @ ("accepted" | "refused"), which, ..] => format!("{word} {which}"),
         [word, ..] => word.into(),
     }
@@ -135,7 +139,7 @@ impl<'a> Writer<'a> {
                 6..=7 => self.implication(),
                 8..=9 => self.question(),
                 10..=11 => self.page(),
-                12 => self.random.pick(&["length", "sheet"]).to_string(),
+                12 => self.random.pick(&["length", "sheet", "screen p|~p"]).to_string(),
                 13 => self.mean(),
                 _ => format!("check {}", hexadecimal(&self.sheet)),
             };
@@ -156,7 +160,7 @@ impl<'a> Writer<'a> {
                 5 => self.flat(),
                 6..=7 => self.implication(),
                 8..=11 => self.page(),
-                12 => self.random.pick(&["length", "sheet", "mark 0", "return 0"]).to_string(),
+                12 => self.random.pick(&["length", "sheet", "screen p>p", "mark 0", "return 0"]).to_string(),
                 13 => self.mean(),
                 _ => self.question(),
             };
@@ -216,7 +220,26 @@ impl<'a> Writer<'a> {
 
     /// A text, and mostly the question for its goal or a page of all its atoms.
     fn text(&mut self) {
-        let style = Style { letters: 4, connectives: b"&|>>=~", falsehood: 9, spaces: 9, bare: 2 };
+        let line = self.with_formula("text", 4);
+        let answer = self.write(line);
+        let Some(goal) = answer.strip_prefix("goal ") else { return };
+        let by = self.by();
+        match self.random.below(8) {
+            0..=1 => return,
+            2..=3 => self.write(self.page_of_all() + &by),
+            _ => self.write(format!("ask {}{by}", goal.trim_end())),
+        };
+    }
+
+    /// Mostly a formula of few letters, at times of more than are screened.
+    fn screen(&mut self) -> Vec<u8> {
+        let letters = 1 + self.random.below(5);
+        self.with_formula("screen", letters)
+    }
+
+    /// The word and a formula of so many letters, or a text that is none or at the limits.
+    fn with_formula(&mut self, word: &str, letters: usize) -> Vec<u8> {
+        let style = Style { letters, connectives: b"&|>>=~", falsehood: 9, spaces: 9, bare: 2 };
         let text = match self.random.below(12) {
             0 => vec![b"~("[self.random.below(2)]; 60 + self.random.below(8)],
             1 => formula(self.random, &style, 60),
@@ -230,18 +253,11 @@ impl<'a> Writer<'a> {
             }
         };
         let without_ends = text.into_iter().filter(|&byte| byte != b'\n').collect();
-        let answer = self.write([b"text ".to_vec(), without_ends].concat());
-        let Some(goal) = answer.strip_prefix("goal ") else { return };
-        let by = self.by();
-        match self.random.below(8) {
-            0..=1 => return,
-            2..=3 => self.write(self.page_of_all() + &by),
-            _ => self.write(format!("ask {}{by}", goal.trim_end())),
-        };
+        [word.into(), b" ".to_vec(), without_ends].concat()
     }
 
     fn line(&mut self) -> Vec<u8> {
-        match self.random.below(30) {
+        match self.random.below(32) {
             0..=5 => self.flat().into(),
             6..=9 => self.implication().into(),
             10..=14 => self.question().into(),
@@ -253,6 +269,7 @@ impl<'a> Writer<'a> {
             22 => self.mark("return").into(),
             23 => self.page().into(),
             24..=25 => self.mean().into(),
+            26..=27 => self.screen(),
             _ => self.damaged_line(),
         }
     }
@@ -389,16 +406,16 @@ impl<'a> Writer<'a> {
     /// A line with a byte changed, put in or taken out, or its end cut off.
     fn damaged_line(&mut self) -> Vec<u8> {
         const BYTES: &[u8] = b" 0129aA#-\t\r\x00\x80\xff";
-        let mut line = match self.random.below(7) {
-            0 => self.flat(),
-            1 => self.implication(),
-            2 => self.question(),
-            3 => self.mark("mark"),
-            4 => self.page(),
-            5 => self.mean(),
-            _ => self.check(),
-        }
-        .into_bytes();
+        let mut line: Vec<u8> = match self.random.below(8) {
+            0 => self.flat().into(),
+            1 => self.implication().into(),
+            2 => self.question().into(),
+            3 => self.mark("mark").into(),
+            4 => self.page().into(),
+            5 => self.mean().into(),
+            6 => self.screen(),
+            _ => self.check().into(),
+        };
         let at = self.random.below(line.len());
         let byte = *self.random.pick(BYTES);
         match self.random.below(4) {

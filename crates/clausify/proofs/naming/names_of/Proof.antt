@@ -6,25 +6,22 @@ use Rattle.clausify.proofs.naming.names_of.Statement.{statement}
 use Rattle.clausify.proofs.naming.names_of.Tie as tie
 
 abbrev Inv-loop : tie.InvT-loop
-Inv-loop parts letters atoms₀ next₀ i₀ atoms next i = Given parts atoms next i
+Inv-loop letters parts atoms₀ next₀ i₀ atoms next i = Given parts atoms next i
 
 abbrev μ-loop : tie.MeasureT-loop
-μ-loop parts letters atoms₀ next₀ i₀ atoms next i = parts .count - i
-
-letter-count-requires : tie.Need-letter-count-requires Inv-loop μ-loop
-letter-count-requires c κs = c .pre
+μ-loop letters parts atoms₀ next₀ i₀ atoms next i = parts .count - i
 
 loop-holds : tie.Need-loop-holds Inv-loop μ-loop
-loop-holds c = given-none _ (c .before .pre) _ _ (search needs) (c .letter-count .ensures)
+loop-holds c = given-none _ (c .pre .0) _ _ (search needs) (c .pre .1)
 
 pass-requires : tie.Need-pass-requires Inv-loop μ-loop
-pass-requires c κs = given-small _ (c .before .before .before .before .pre) _ _ _ (c .before .before .loop .inv)
+pass-requires c κs = given-small _ (c .before .before .before .pre .0) _ _ _ (c .before .before .loop .inv)
 
 loop-again : tie.Need-loop-again Inv-loop μ-loop
-loop-again c = given-more _ (c .before .before .before .before .before .pre) _ _ _ (c .before .before .before .loop .inv) _ _ (c .before .before .loop-test .taken) (c .pass .ensures)
+loop-again c = given-more _ (c .before .before .before .before .pre .0) _ _ _ (c .before .before .before .loop .inv) _ _ (c .before .before .loop-test .taken) (c .pass .ensures)
 
 returns : tie.Need-returns Inv-loop μ-loop
-returns c = given-all _ (c .before .before .before .pre) _ _ _ (c .before .loop .inv) (c .loop-test .left)
+returns c = given-all _ (c .before .before .pre .0) _ _ _ (c .before .loop .inv) (c .loop-test .left)
 
 pub names-of-spec : {M : Type 1} → statement M
 names-of-spec =
@@ -32,7 +29,6 @@ names-of-spec =
     (tie.spec
     Inv-loop
     μ-loop
-    letter-count-requires
     loop-holds
     (λ c. search needs)
     (λ c. search needs)

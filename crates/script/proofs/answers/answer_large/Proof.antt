@@ -23,6 +23,11 @@ check-requires c κs =
     let inside = known-inside _ (start .pre .0) (ap asCall (known .call3 .given .1)) in
     (inside .0, inside .1, start .pre .1)
 
+screen-requires : tie.Need-screen-requires
+screen-requires c κs =
+    let known = c .before .before in
+    known-inside _ (known .before .before .before .before .pre .0) (ap asCall (known .call4 .given .1))
+
 returns : tie.Need-returns
 returns c = λ number.
     let known = c .before .before .before .before .before in
@@ -42,6 +47,9 @@ returns-3 c = λ number. rw (c .before .before .before .before .enum-told .given
 returns-4 : tie.Need-returns-4
 returns-4 c = λ number. rw (c .before .before .before .before .before .call3 .given .1) (_, (refl, refl), c .before .before .check .ensures)
 
+returns-5 : tie.Need-returns-5
+returns-5 c = λ number. rw (c .before .before .before .before .before .call4 .given .1) (_, (refl, refl), c .before .before .screen .ensures)
+
 pub answer-large-spec : {M : Type 1} → statement M
 answer-large-spec =
     tie.close
@@ -55,10 +63,14 @@ answer-large-spec =
     (λ c. search needs)
     check-requires
     (λ c. search needs)
+    screen-requires
+    (λ c. search needs)
     returns
     (λ c. search needs)
     returns-2
     (λ c. search needs)
     returns-3
     (λ c. search needs)
-    returns-4)
+    returns-4
+    (λ c. search needs)
+    returns-5)

@@ -41,6 +41,9 @@ answer-large-requires-3 c κs = let known = c .before in ready (known .before .b
 answer-large-requires-4 : tie.Need-answer-large-requires-4
 answer-large-requires-4 c κs = let known = c .before .before in ready (known .before .before) (known .start3 .given .1)
 
+answer-large-requires-5 : tie.Need-answer-large-requires-5
+answer-large-requires-5 c κs = let known = c .before .before in ready (known .before .before) (known .start4 .given .1)
+
 -- It was made.
 made : (read : tie.After-kept-call) {entry exit : List ℕ} {r : Answer} {known : Call} → read .kept-call .result ≡ known
     → (let size = read .before .before in let args = size .before .before .before .before .args in
@@ -122,6 +125,12 @@ returns-14 c =
     let known = c .before .before .before .before .before in
     made (known .before .before) (known .author2 .given .1) (_, (refl, refl), c .before .before .write-mean .ensures)
 
+returns-15 : tie.Need-returns-15
+returns-15 c =
+    let known = c .before .before .before .before .before in
+    let read = known .before .before in
+    made read (known .start4 .given .1) (c .before .before .answer-large5 .ensures (read .before .before .before .before .before .before .args .number))
+
 pub answer-line-spec : {M : Type 1} → statement M
 answer-line-spec =
     tie.close
@@ -159,6 +168,8 @@ answer-line-spec =
     answer-large-requires-4
     (λ c. search needs)
     (λ c κs. search needs)
+    (λ c. search needs)
+    answer-large-requires-5
     returns
     (λ c. search needs)
     returns-2
@@ -185,4 +196,6 @@ answer-line-spec =
     (λ c. search needs)
     returns-13
     (λ c. search needs)
-    returns-14)
+    returns-14
+    (λ c. search needs)
+    returns-15)

@@ -1,7 +1,7 @@
 -- Verb by verb.
 use mathlib.Core.Path.{refl}
 use borrow.Author.Needs.{needs}
-use Rattle.script.proofs.Calling.{finished}
+use Rattle.script.proofs.Calling.{finished, text-behind, screen-behind}
 use Rattle.script.proofs.reading.call_of.Statement.{statement}
 use Rattle.script.proofs.reading.call_of.Tie as tie
 
@@ -9,7 +9,7 @@ returns : tie.Need-returns
 returns c = rw (c .before .enum-told .given .1) (c .«open» .ensures)
 
 returns-2 : tie.Need-returns-2
-returns-2 c = rw (c .before .enum-told2 .given .1) (c .text .ensures)
+returns-2 c = rw (c .before .enum-told2 .given .1) (text-behind _ _ _ (c .behind .ensures))
 
 returns-3 : tie.Need-returns-3
 returns-3 c = rw (c .before .enum-told3 .given .1) (c .flat .ensures)
@@ -41,10 +41,15 @@ returns-11 c = rw (c .before .enum-told11 .given .1) (c .check-sheet .ensures)
 returns-12 : tie.Need-returns-12
 returns-12 c = rw (c .before .enum-told12 .given .1) (c .mean .ensures)
 
+returns-13 : tie.Need-returns-13
+returns-13 c = rw (c .before .enum-told13 .given .1) (screen-behind _ _ _ (c .behind2 .ensures))
+
 pub call-of-spec : {M : Type 1} → statement M
 call-of-spec =
     tie.close
     (tie.spec
+    (λ c. search needs)
+    (λ c κs. search needs)
     (λ c. search needs)
     (λ c κs. search needs)
     (λ c. search needs)
@@ -82,4 +87,5 @@ call-of-spec =
     returns-10
     returns-11
     returns-12
+    returns-13
     (λ c. search needs))

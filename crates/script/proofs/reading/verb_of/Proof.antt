@@ -3,7 +3,7 @@ use mathlib.Core.Path.{sym, ap}
 use borrow.Author.Needs.{needs}
 use Rattle.text.specs.Text.{ascii}
 use Rattle.script.specs.Command.{same, verbOf}
-use Rattle.script.proofs.Verbs.{unlike}
+use Rattle.script.proofs.Verbs.{unlike, no-verb}
 use Rattle.script.proofs.reading.verb_of.Statement.{statement}
 use Rattle.script.proofs.reading.verb_of.Tie as tie
 
@@ -56,9 +56,14 @@ unfolding verbOf same ascii
 returns-12 c = ap verbOf (sym (c .before .same12 .ensures .0 (c .if12 .taken)))
 
 returns-13 : tie.Need-returns-13
-unfolding verbOf ascii
-returns-13 c =
-    let t12 = c in
+unfolding verbOf same ascii
+returns-13 c = ap verbOf (sym (c .before .same13 .ensures .0 (c .if13 .taken)))
+
+returns-14 : tie.Need-returns-14
+unfolding ascii
+returns-14 c =
+    let t13 = c in
+    let t12 = t13 .before .before .before in
     let t11 = t12 .before .before .before in
     let t10 = t11 .before .before .before in
     let t9 = t10 .before .before .before in
@@ -70,20 +75,20 @@ returns-13 c =
     let t3 = t4 .before .before .before in
     let t2 = t3 .before .before .before in
     let t1 = t2 .before .before .before in
-    rw (
-      unlike _ _ _ (t1 .before .same .ensures .1) (t1 .if1 .left),
-      unlike _ _ _ (t2 .before .same2 .ensures .1) (t2 .if2 .left),
-      unlike _ _ _ (t3 .before .same3 .ensures .1) (t3 .if3 .left),
-      unlike _ _ _ (t4 .before .same4 .ensures .1) (t4 .if4 .left),
-      unlike _ _ _ (t5 .before .same5 .ensures .1) (t5 .if5 .left),
-      unlike _ _ _ (t6 .before .same6 .ensures .1) (t6 .if6 .left),
-      unlike _ _ _ (t7 .before .same7 .ensures .1) (t7 .if7 .left),
-      unlike _ _ _ (t8 .before .same8 .ensures .1) (t8 .if8 .left),
-      unlike _ _ _ (t9 .before .same9 .ensures .1) (t9 .if9 .left),
-      unlike _ _ _ (t10 .before .same10 .ensures .1) (t10 .if10 .left),
-      unlike _ _ _ (t11 .before .same11 .ensures .1) (t11 .if11 .left),
-      unlike _ _ _ (t12 .before .same12 .ensures .1) (t12 .if12 .left),
-    )
+    no-verb _
+    (unlike _ _ _ (t1 .before .same .ensures .1) (t1 .if1 .left))
+    (unlike _ _ _ (t2 .before .same2 .ensures .1) (t2 .if2 .left))
+    (unlike _ _ _ (t3 .before .same3 .ensures .1) (t3 .if3 .left))
+    (unlike _ _ _ (t4 .before .same4 .ensures .1) (t4 .if4 .left))
+    (unlike _ _ _ (t5 .before .same5 .ensures .1) (t5 .if5 .left))
+    (unlike _ _ _ (t6 .before .same6 .ensures .1) (t6 .if6 .left))
+    (unlike _ _ _ (t7 .before .same7 .ensures .1) (t7 .if7 .left))
+    (unlike _ _ _ (t8 .before .same8 .ensures .1) (t8 .if8 .left))
+    (unlike _ _ _ (t9 .before .same9 .ensures .1) (t9 .if9 .left))
+    (unlike _ _ _ (t10 .before .same10 .ensures .1) (t10 .if10 .left))
+    (unlike _ _ _ (t11 .before .same11 .ensures .1) (t11 .if11 .left))
+    (unlike _ _ _ (t12 .before .same12 .ensures .1) (t12 .if12 .left))
+    (unlike _ _ _ (t13 .before .same13 .ensures .1) (t13 .if13 .left))
 
 pub verb-of-spec : {M : Type 1} → statement M
 verb-of-spec =
@@ -125,4 +130,7 @@ verb-of-spec =
     (λ c. search needs)
     (λ c κs. search needs)
     returns-12
-    returns-13)
+    (λ c. search needs)
+    (λ c κs. search needs)
+    returns-13
+    returns-14)

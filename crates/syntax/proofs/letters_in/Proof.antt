@@ -1,11 +1,11 @@
 -- By the kind of the part.
 use mathlib.Core.Path.{sym, ap}
 use Rattle.syntax.specs.Parts.{entryOf}
 use Rattle.syntax.specs.declared.Part.{Part}
-use Rattle.clausify.specs.Writing.{lettersIn}
+use Rattle.syntax.specs.Letters.{lettersIn}
 use borrow.Author.Needs.{needs}
-use Rattle.clausify.proofs.naming.letters_in.Statement.{statement}
-use Rattle.clausify.proofs.naming.letters_in.Tie as tie
+use Rattle.syntax.proofs.letters_in.Statement.{statement}
+use Rattle.syntax.proofs.letters_in.Tie as tie
 
 returns : tie.Need-returns
 unfolding lettersIn

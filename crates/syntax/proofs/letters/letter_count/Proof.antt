@@ -1,10 +1,10 @@
 -- The letters before entry i, and those that are left.
 use Prim.Native.Nat.{_-_}
-use Rattle.clausify.proofs.Loops.{Counted, counted-none, counted-byte, counted-more, counted-all}
+use Rattle.syntax.proofs.LetterCount.{Counted, counted-none, counted-byte, counted-more, counted-all}
 use borrow.Author.Needs.{needs}
 use native.Mathlib.Omega.{arith}
-use Rattle.clausify.proofs.naming.letter_count.Statement.{statement}
-use Rattle.clausify.proofs.naming.letter_count.Tie as tie
+use Rattle.syntax.proofs.letters.letter_count.Statement.{statement}
+use Rattle.syntax.proofs.letters.letter_count.Tie as tie
 
 abbrev Inv-loop : tie.InvT-loop
 Inv-loop parts letters₀ i₀ letters i = Counted parts letters i

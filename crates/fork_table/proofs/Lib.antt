@@ -1,0 +1,3 @@
+-- Laws of the table of implications.
+pub mod Implications
+pub mod Texts

@@ -1,0 +1,2 @@
+-- The table of implications as text.
+pub mod Table
