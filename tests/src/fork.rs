@@ -220,7 +220,7 @@ mod tests {
     /// The table that the proved code holds.
     fn table_held() -> Vec<u8> {
         let source = stored("fork/src/implications.rt");
-        let (_, entries) = source.split_once("[u8; 289] = [").expect("the table");
+        let (_, entries) = source.split_once("[u8; SETS * SETS] = [").expect("the table");
         let (entries, _) = entries.split_once("];").expect("its end");
         numbers(entries.lines().filter_map(|line| line.trim().split_once(',')).map(|(entry, _)| entry))
     }

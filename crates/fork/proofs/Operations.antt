@@ -14,7 +14,7 @@ use Rattle.atoms.proofs.Truth.{T-left, T-right, T-and, T-or, T-inl, true-T}
 use Rattle.ipl.specs.Lists.{all, tabulate}
 use Rattle.ipl.proofs.Lists.{all-All, All-all, All-tabulate, tabulate-at}
 use Rattle.fork.specs.Fork.{tips, below, whole, setCount, member}
-use Rattle.fork.specs.Algebra.{meet, join, within, isImplication, numberWith, implication}
+use Rattle.fork.specs.Algebra.{meet, join, within, isImplication, Greatest, numberWith, implication}
 
 -- ---- tables of values
 
@@ -79,8 +79,8 @@ unfolding member
 root-member s zero t = t
 root-member s (suc i) t = T-inl (eqb s whole) (has s i) t
 
-pub member-upward : (s u v : ℕ) → u < suc tips → v < suc tips → T (below u v) → T (member s u) → T (member s v)
-member-upward s u v hu hv l t = elim (T-or (eqb u 0) (eqb u v) l) [
+pub member-upward : (s u v : ℕ) → T (below u v) → T (member s u) → T (member s v)
+member-upward s u v l t = elim (T-or (eqb u 0) (eqb u v) l) [
   | inl e ↦ root-member s v (subst (λ (k : ℕ). T (member s k)) (eqb→eq u 0 e) t)
   | inr e ↦ subst (λ (k : ℕ). T (member s k)) (eqb→eq u v e) t
 ]
@@ -96,12 +96,6 @@ all-below p n = (
   λ t. All-tabulate (λ k. T (p k)) (λ k. k) n .0 (all-All p (tabulate (λ k. k) n) t),
   λ f. All-all p (tabulate (λ k. k) n) (All-tabulate (λ k. T (p k)) (λ k. k) n .1 f),
 )
-
--- "The greatest set whose common part with the first lies within the second."
-pub record Greatest (a b c : ℕ) : Type 0 where
-  pub set : c ≤ whole
-  pub inside : T (within (meet c a) b)
-  pub greatest : (d : ℕ) → d ≤ whole → T (within (meet d a) b) → T (within d c)
 
 implication-passes : (a b : ℕ) → a ≤ whole → b ≤ whole → isImplication a b (implication a b) ≡ true
 unfolding all tabulate meet within isImplication numberWith implication

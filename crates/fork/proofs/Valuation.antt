@@ -73,7 +73,7 @@ valuation-model v = record {
     | inr e ↦ subst (λ (y : ℕ). T (below y x)) (sym (eqb→eq u w e)) l
   ];
   least = λ u hu. tt;
-  persistent = λ u w i. member-upward (v i) u w;
+  persistent = λ u w i hu hw. member-upward (v i) u w;
 }
 
 -- ---- a model gives sets

@@ -1,8 +1,8 @@
 -- The algebra of the 17 sets, and the value of a formula in it.
 use mathlib.Core.Bool.{Bool, not, cond, _&&_, _||_}
 use mathlib.Core.List.{List}
-use Prim.Native.Nat.{ℕ, zero, suc}
-use lib.Dec.{eqb}
+use Prim.Native.Nat.{ℕ, zero, suc, _≤_}
+use lib.Dec.{T, eqb}
 use Rattle.atoms.specs.Sets as sets
 use Rattle.ipl.specs.Lists.{all, tabulate}
 use Rattle.ipl.specs.Formula.{Formula, letter, falsum, and, or, implies}
@@ -20,6 +20,12 @@ unfoldable pub within : ℕ → ℕ → Bool
 within a b = eqb (meet a b) a
 
 -- c is "the greatest set whose common part with the first lies within the second": it is such a set, and every such set lies within it.
+pub record Greatest (a b c : ℕ) : Type 0 where
+  pub set : c ≤ whole
+  pub inside : T (within (meet c a) b)
+  pub greatest : (d : ℕ) → d ≤ whole → T (within (meet d a) b) → T (within d c)
+
+-- The same as a test.
 unfoldable pub isImplication : ℕ → ℕ → ℕ → Bool
 isImplication a b c = within (meet c a) b && all (λ d. not (within (meet d a) b) || within d c) (tabulate (λ d. d) setCount)
 

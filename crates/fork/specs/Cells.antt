@@ -20,6 +20,11 @@ connectedSets And a b = meet a b
 connectedSets Or a b = join a b
 connectedSets Implies a b = implication a b
 
+-- A table of implications: that of a and b is entry 17 a + b.
+pub record Implications (t : List ℕ) : Type 0 where
+  pub sized : length t ≡ setCount * setCount
+  pub entry : (a b : ℕ) → a ≤ whole → b ≤ whole → getD t (a * setCount + b) 0 ≡ implication a b
+
 -- ---- a table's parts under an assignment
 
 -- The value of part i under the assignment with number n.

@@ -1,5 +1,7 @@
 // The implication of the sets a and b is entry 17 a + b. The program `fork_table` writes these from the definition.
-pub const ENTRIES: [u8; 289] = [
+use super::SETS;
+
+pub const ENTRIES: [u8; SETS * SETS] = [
     16, // of 0
     16,
     16,

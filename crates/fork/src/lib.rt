@@ -5,7 +5,7 @@ ghost use lib.ListN.{length};
 ghost use Rattle.syntax.specs.Judge.{judge};
 ghost use Rattle.syntax.specs.Parts.{held};
 ghost use Rattle.fork.specs.Screen.{screening};
-ghost use Rattle.fork.specs.Cells.{Tabled, screenedAt};
+ghost use Rattle.fork.specs.Cells.{Implications, Tabled, screenedAt};
 ghost use Rattle.fork.specs.Answer.{ScreenedAs, Without};
 
 mod algebra;
@@ -46,14 +46,14 @@ fn without_sets(outcome: Outcome) -> Screened
 }
 
 // Under every assignment, 17 at a time.
-fn screen_part(parts: Parts, root: u8, letters: u8) -> Screened
-    requires { ⌜ Tabled parts letters × (root < length (held parts)) ⌝ }
+fn screen_rounds(table: &[u8], parts: Parts, root: u8, letters: u8) -> Screened
+    requires { ⌜ Implications (now table) × Tabled parts letters × (root < length (held parts)) ⌝ }
     ensures { λ r. ⌜ ScreenedAs (screenedAt (held parts) root) r ⌝ }
 {
     let end = assignments::count(letters);
     let mut number = 0;
     while number < end {
-        let column = rows::first_fall(parts, root, letters, number);
+        let column = rows::first_fall(table, parts, root, letters, number);
         if column < SETS {
             return Screened {
                 outcome: Outcome::Falls,
@@ -64,6 +64,14 @@ fn screen_part(parts: Parts, root: u8, letters: u8) -> Screened
         number += SETS;
     }
     without_sets(Outcome::Passes)
+}
+
+fn screen_part(parts: Parts, root: u8, letters: u8) -> Screened
+    requires { ⌜ Tabled parts letters × (root < length (held parts)) ⌝ }
+    ensures { λ r. ⌜ ScreenedAs (screenedAt (held parts) root) r ⌝ }
+{
+    let table = implications::ENTRIES;
+    screen_rounds(&table, parts, root, letters)
 }
 
 // Screens the formula of a text. Refused 1, 2, 3 (with its place), 4, 22 (over three letters).

@@ -12,13 +12,21 @@ ghost use lib.ListN.{length};
 ghost use Rattle.syntax.specs.Parts.{entryOf, held, room};
 ghost use Rattle.fork.specs.Fork.{setCount};
 ghost use Rattle.fork.specs.Screen.{mostLetters};
-ghost use Rattle.fork.specs.Cells.{entryValue, Cells, Readable, Writable, Written, Tabled, Filled, FirstBelow, FirstIn};
+ghost use Rattle.fork.specs.Cells.{entryValue, Cells, Readable, Writable, Written, Tabled, Filled, FirstBelow, FirstIn, Implications};
 
-pub const CELLS: usize = syntax::PARTS * SETS;
+const CELLS: usize = syntax::PARTS * SETS;
 
-// `row` is that of the part.
-fn value_of(values: &[u8], row: usize, part: Part, column: usize, number: usize, place: u8) -> u8
-    requires { ⌜ Readable (now values) row (entryOf part) column ⌝ }
+// The value of a part in a column. The rows of its own parts stand before its row.
+fn value_of(
+    table: &[u8],
+    values: &[u8],
+    row: usize,
+    part: Part,
+    column: usize,
+    number: usize,
+    place: u8,
+) -> u8
+    requires { ⌜ Implications (now table) × Readable (now values) row (entryOf part) column ⌝ }
     ensures { λ r. ⌜ r ≡ entryValue (now (values .entry)) column number place (entryOf part) ⌝ }
 {
     match part {
@@ -27,27 +35,27 @@ fn value_of(values: &[u8], row: usize, part: Part, column: usize, number: usize,
         Part::Compound(c, a, b) => {
             let left = values[a as usize * SETS + column];
             let right = values[b as usize * SETS + column];
-            algebra::connected(c, left, right)
+            algebra::connected(table, c, left, right)
         }
     }
 }
 
-// Writes the row of a part, under the assignments from this number on. The rows of its parts stand before it.
-fn write_row(values: &mut [u8], row: usize, part: Part, number: usize, place: u8)
-    requires { ⌜ Writable (now values) row (entryOf part) number ⌝ }
+// Writes the row of a part, under the assignments from this number on.
+fn write_row(table: &[u8], values: &mut [u8], row: usize, part: Part, number: usize, place: u8)
+    requires { ⌜ Implications (now table) × Writable (now values) row (entryOf part) number ⌝ }
     ensures { λ _. ⌜ Written (now (values .entry)) row (entryOf part) number place (now (values .exit)) ⌝ }
 {
     let mut column = 0;
     while column < SETS {
-        let value = value_of(values, row, part, column, number + column, place);
+        let value = value_of(table, values, row, part, column, number + column, place);
         values[row * SETS + column] = value;
         column += 1;
     }
 }
 
 // Writes the rows of all parts.
-fn fill(values: &mut [u8], parts: Parts, letters: u8, number: usize)
-    requires { ⌜ Cells (now values) × Tabled parts letters × (number ≤ setCount ^ mostLetters) ⌝ }
+fn fill(table: &[u8], values: &mut [u8], parts: Parts, letters: u8, number: usize)
+    requires { ⌜ Implications (now table) × Cells (now values) × Tabled parts letters × (number ≤ setCount ^ mostLetters) ⌝ }
     ensures { λ _. ⌜ Filled (held parts) number (now (values .exit)) ⌝ }
 {
     let mut place = MOST_LETTERS - letters;
@@ -56,13 +64,13 @@ fn fill(values: &mut [u8], parts: Parts, letters: u8, number: usize)
         let row = i as usize;
         let node = parts.nodes[row];
         let part = node.part;
-        write_row(values, row, part, number, place);
+        write_row(table, values, row, part, number, place);
         place += syntax::letters_in(part);
         i += 1;
     }
 }
 
-// The first column in which a part has not the whole; their number where there is none.
+// The first column in which a row has not the whole; their number where there is none.
 fn first_below(values: &[u8], row: usize) -> usize
     requires { ⌜ Cells (now values) × (row < room) ⌝ }
     ensures { λ r. ⌜ FirstBelow (now (values .entry)) row r ⌝ }
@@ -77,12 +85,12 @@ fn first_below(values: &[u8], row: usize) -> usize
     column
 }
 
-// The same under 17 assignments, the first of this number.
-pub fn first_fall(parts: Parts, root: u8, letters: u8, number: usize) -> usize
-    requires { ⌜ Tabled parts letters × (root < length (held parts)) × (number ≤ setCount ^ mostLetters) ⌝ }
+// The first of 17 assignments under which a part has not the whole, counted from this number; 17 where there is none.
+pub fn first_fall(table: &[u8], parts: Parts, root: u8, letters: u8, number: usize) -> usize
+    requires { ⌜ Implications (now table) × Tabled parts letters × (root < length (held parts)) × (number ≤ setCount ^ mostLetters) ⌝ }
     ensures { λ r. ⌜ FirstIn (held parts) root number r ⌝ }
 {
     let mut values = [0u8; CELLS];
-    fill(&mut values, parts, letters, number);
+    fill(table, &mut values, parts, letters, number);
     first_below(&values, root as usize)
 }

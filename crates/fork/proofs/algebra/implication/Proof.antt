@@ -1,14 +1,14 @@
--- The table's entries are the implications, each computed from its definition.
+-- By the table's entry.
 use borrow.Author.Needs.{needs}
-use Rattle.ipl.specs.Lists.{all, tabulate}
-use Rattle.fork.specs.Algebra.{meet, within, isImplication, numberWith, implication}
-use Rattle.fork.proofs.Operations.{table, implication-entry}
+use native.Mathlib.Omega.{arith}
 use Rattle.fork.proofs.algebra.implication.Statement.{statement}
 use Rattle.fork.proofs.algebra.implication.Tie as tie
 
+shared-slice-read-result : tie.Need-shared-slice-read-result
+shared-slice-read-result c = let (table, a, b) = c .before .pre in omega (arith, table .sized, a, b)
+
 returns : tie.Need-returns
-unfolding all tabulate meet within isImplication numberWith implication table
-returns c = implication-entry (c .args .a) (c .args .b) (search needs) (search needs)
+returns c = let (table, a, b) = c .before .pre in table .entry _ _ a b
 
 pub implication-spec : {M : Type 1} → statement M
-implication-spec = tie.close (tie.spec (λ c. search needs) (λ c. search needs) (λ c. search needs) returns)
+implication-spec = tie.close (tie.spec (λ c. search needs) (λ c. search needs) shared-slice-read-result returns)
