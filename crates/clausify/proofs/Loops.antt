@@ -21,7 +21,7 @@ use Rattle.prover.specs.State.{implicationRow, implicationsOf}
 use Rattle.prover.specs.declared.Implications.{Implications}
 use Rattle.syntax.specs.Nodes.{Entry, letter, falsum, compound, Earlier, named}
 use Rattle.syntax.specs.Letters.{lettersOf, letterCount}
-use Rattle.syntax.specs.Parts.{entryOf, held, room, Sound}
+use Rattle.syntax.specs.Parts.{held, room, Sound}
 use Rattle.syntax.specs.declared.Node.{Node}
 use Rattle.syntax.specs.declared.Parts.{Parts}
 use Rattle.syntax.proofs.Held.{held-length, held-row}

@@ -1,7 +1,7 @@
 -- Assignments by number: their digits, and that each list of sets has its number, in the order of the lists.
 use mathlib.Core.List.{List, [], _∷_}
 use mathlib.Core.Logic.{inl, inr}
-use mathlib.Core.Path.{_≡_, refl, sym, ap, ap₂, _∙_, subst}
+use mathlib.Core.Path.{_≡_, refl, sym, ap, ap₂, _∙_}
 use Prim.Native.Nat.{ℕ, zero, suc, _+_, _*_, _-_, _/_, _%_, _^_, _≤_, _<_}
 use native.Mathlib.Nat.{pow-suc, mul-assoc, mul-comm, mul-le-mul-right, suc-mul, one-le-pow}
 use native.Mathlib.Nat.{mod-lt, mod-eq-of-lt, mod-one, div-eq-of-lt, mul-add-div-right, mul-add-mod-self-right, add-zero}
@@ -12,7 +12,7 @@ use Rattle.ipl.specs.Lists.{All}
 use Rattle.fork.specs.Fork.{whole, setCount}
 use Rattle.fork.specs.Screen.{assignment, mostLetters}
 use Rattle.fork.specs.Cells.{setAt}
-use Rattle.fork.specs.Answer.{IsAssignment, Before}
+use Rattle.fork.specs.Answer.{Before}
 
 pub assignment-length : (k n : ℕ) → length (assignment k n) ≡ k
 unfolding assignment

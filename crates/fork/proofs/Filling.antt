@@ -1,7 +1,7 @@
 -- Rows of values, written one after the other, a column at a time.
 use mathlib.Core.Bool.{Bool, true, false}
 use mathlib.Core.List.{List}
-use mathlib.Core.Path.{_≡_, refl, sym, ap, ap₂, _∙_, subst}
+use mathlib.Core.Path.{_≡_, refl, sym, ap₂, _∙_, subst}
 use Prim.Native.Nat.{ℕ, _+_, _-_, _/_, _^_, _≤_, _<_}
 use native.Mathlib.Decide.{decLt}
 use native.Mathlib.Nat.{mod-lt}
@@ -19,11 +19,11 @@ use Rattle.fork.specs.Fork.{whole, setCount}
 use Rattle.fork.specs.Cells.{connectedSets, cells, cellAt, setAt, entryValue, Cells, Readable, Written}
 use Rattle.fork.proofs.Operations.{meet-set, join-set, implication-set}
 
-pub set-at-set : (n place : ℕ) → setAt n place ≤ whole
+set-at-set : (n place : ℕ) → setAt n place ≤ whole
 unfolding setAt
 set-at-set n place = omega (arith, mod-lt (n / setCount ^ (2 - place)) {m = setCount} (omega arith))
 
-pub connected-set : (c : Connective) (a b : ℕ) → a ≤ whole → b ≤ whole → connectedSets c a b ≤ whole
+connected-set : (c : Connective) (a b : ℕ) → a ≤ whole → b ≤ whole → connectedSets c a b ≤ whole
 connected-set And a b h k = meet-set a b h k
 connected-set Or a b h k = join-set a b h k
 connected-set Implies a b h k = implication-set a b h k

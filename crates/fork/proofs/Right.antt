@@ -99,8 +99,8 @@ module _ (s : List ℕ) where
 
   exactly : (o : Outcome) (sets : List ℕ) → Says s o sets → (f : Formula) → Screenable s f → (o ≡ Passes) ↔ HoldsOnFork f
   exactly (Refused number place) sets (inl x) f c = absurd (not-both number place f x (c .accepted))
-  exactly (Refused number place) sets (inr (g, a, many, number-is, place-is)) f c =
-      absurd (omega (arith, many, c .few, ap (λ (g : Formula). length (letters g)) (one-formula f g (c .accepted) a)))
+  exactly (Refused number place) sets (inr x) f c =
+      absurd (omega (arith, x .many, c .few, ap (λ (g : Formula). length (letters g)) (one-formula f (x .formula) (c .accepted) (x .accepted))))
   exactly Passes sets (g, d, h) f c = (λ e. subst HoldsOnFork (one-formula g f (d .accepted) (c .accepted)) h, λ e. refl)
   exactly Falls sets (g, d, h) f c = (
     λ e. let z : _≡_ {A = ℕ} 0 1 = cc in absurd (omega arith),
@@ -123,7 +123,7 @@ module _ (s : List ℕ) where
     by-judgement (refused number place) x a = told (Refused number place) [] a (inl x)
     by-judgement (accepted f) x a =
         by-cond (λ (o : Screening). ScreenedAs o r → Said) (ltb mostLetters (k f)) (screen.refused 22 0) (screened f)
-        (λ t b. told (Refused 22 0) [] b (inr (f, x, ltb-true mostLetters (k f) t, refl, refl)))
+        (λ t b. told (Refused 22 0) [] b (inr (record { formula = f; accepted = x; many = ltb-true mostLetters (k f) t; number-is = refl; place-is = refl })))
         (λ t.
         screened-says f (record { accepted = x; few = omega (arith, ltb-false mostLetters (k f) t) })
         (firstFailing (test f) (setCount ^ k f)) (first-said (test f) (setCount ^ k f)))

@@ -1,6 +1,6 @@
 -- A text that was read, and its answer.
 use mathlib.Core.List.{List}
-use mathlib.Core.Path.{_≡_, refl, sym, ap, ap₂, _∙_, subst}
+use mathlib.Core.Path.{_≡_, sym, ap, ap₂, _∙_, subst}
 use Prim.Native.Nat.{ℕ, _^_, _≤_, _<_}
 use native.Mathlib.Omega.{arith}
 use lib.Dec.{eqb}
@@ -8,8 +8,8 @@ use lib.ListN.{length}
 use borrow.Author.Tests.{lt-ltb, le-ltb}
 use Rattle.ipl.specs.First.{firstFailing}
 use Rattle.ipl.specs.Formula as ipl
-use Rattle.syntax.specs.Nodes.{Entry, nodes, formulaAt, WellOrdered, Once}
-use Rattle.syntax.specs.Letters.{lettersOf, letterCount}
+use Rattle.syntax.specs.Nodes.{nodes, WellOrdered, Once}
+use Rattle.syntax.specs.Letters.{letterCount}
 use Rattle.syntax.specs.Parts.{held}
 use Rattle.syntax.specs.Refusal as text
 use Rattle.syntax.specs.Judge.{Judgement, refused, accepted, judge}
@@ -20,7 +20,6 @@ use Rattle.syntax.proofs.Once.{table-once}
 use Rattle.syntax.proofs.Stands.{table-stands, root-inside, table-ordered}
 use Rattle.fork.specs.Fork.{whole, setCount}
 use Rattle.fork.specs.Algebra.{value}
-use Rattle.fork.specs.Screen as screen
 use Rattle.fork.specs.Screen.{mostLetters, letters, assignment, setOf, givesWhole, Screening, fallsAt, screened, screening}
 use Rattle.fork.specs.Cells.{valueAt, screenedAt, Tabled}
 use Rattle.fork.specs.Answer.{ScreenedAs, Without}

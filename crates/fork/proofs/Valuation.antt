@@ -23,7 +23,7 @@ empty-member zero t = t
 empty-member (suc i) t = false-T (has-empty i) t
 
 module _ (holds : ℕ → ℕ → Bool) (v : ℕ → ℕ) (sets : (l : ℕ) → v l ≤ whole) (same : (w l : ℕ) → w < suc tips → holds w l ≡ member (v l) w) where
-  pub value-set : (f : Formula) → value v f ≤ whole
+  value-set : (f : Formula) → value v f ≤ whole
   unfolding value
   value-set (letter l) = sets l
   value-set falsum = omega arith

@@ -6,7 +6,6 @@ use native.Mathlib.Decide.{decLt}
 use native.Mathlib.Omega.{arith}
 use lib.Dec.{eqb}
 use lib.ListN.{length, getD, take, drop, replicate, length-replicate}
-use lib.Seq.{drop-cons}
 use borrow.Author.Tests.{eq-eqb, ne-eqb}
 use Rattle.ipl.specs.Formula.{Formula}
 use Rattle.syntax.specs.Nodes.{Connective, And, Or, Implies, Entry, letter, falsum, compound, same, indexOf, connected, entryFormula, formulasAfter, formulaAt, Earlier, Once}
@@ -21,7 +20,7 @@ use Rattle.syntax.proofs.Stands.{row-formula}
 use Rattle.fork.specs.Fork.{whole, setCount}
 use Rattle.fork.specs.Algebra.{value}
 use Rattle.fork.specs.Screen.{assignment, setOf, mostLetters}
-use Rattle.fork.specs.Cells.{connectedSets, valueAt, Tabled, cells, cellAt, setAt, entryValue, Cells, Writable, Written, Filled, FirstBelow, FirstIn}
+use Rattle.fork.specs.Cells.{connectedSets, valueAt, Tabled, cells, cellAt, entryValue, Cells, Writable, Written, Filled, FirstBelow, FirstIn}
 use Rattle.fork.proofs.Digits.{place-set}
 
 -- ---- the set of a letter

@@ -1,6 +1,5 @@
 -- The algebra of the 17 sets, and the value of a formula in it.
 use mathlib.Core.Bool.{Bool, not, cond, _&&_, _||_}
-use mathlib.Core.List.{List}
 use Prim.Native.Nat.{ℕ, zero, suc, _≤_}
 use lib.Dec.{T, eqb}
 use Rattle.atoms.specs.Sets as sets

@@ -3,15 +3,14 @@ use mathlib.Core.Bool.{Bool}
 use mathlib.Core.List.{List, [], _∷_}
 use mathlib.Core.Logic.{_⊎_, _↔_}
 use mathlib.Core.Path.{_≡_}
-use Prim.Native.Nat.{ℕ, _≤_, _<_, _^_}
+use Prim.Native.Nat.{ℕ, _≤_, _<_}
 use lib.ListN.{length, take}
 use Rattle.ipl.specs.Lists.{All}
 use Rattle.ipl.specs.Formula.{Formula}
 use Rattle.ipl.specs.Kripke.{IsModel, forces}
 use Rattle.syntax.specs.Refusal as text
-use Rattle.syntax.specs.Judge.{judge}
-use Rattle.fork.specs.Fork.{fork, valuation, whole, setCount}
-use Rattle.fork.specs.Screen.{letters, assignment, setOf, mostLetters, Screening, refused, passes, falls, screening}
+use Rattle.fork.specs.Fork.{fork, valuation, whole}
+use Rattle.fork.specs.Screen.{letters, setOf, mostLetters, Screening, refused, passes, falls}
 use Rattle.fork.specs.declared.Outcome.{Outcome}
 use Rattle.fork.specs.declared.Outcome.the-variants.{Refused, Passes, Falls}
 use Rattle.fork.specs.declared.Screened.{Screened}
@@ -61,9 +60,17 @@ pub record Screenable (s : List ℕ) (f : Formula) : Type 0 where
   pub accepted : text.Accepted s f
   pub few : length (letters f) ≤ mostLetters
 
+-- "Then 22 for more than three letters."
+pub record TooManyLetters (s : List ℕ) (number place : ℕ) : Type 0 where
+  pub formula : Formula
+  pub accepted : text.Accepted s formula
+  pub many : mostLetters < length (letters formula)
+  pub number-is : number ≡ 22
+  pub place-is : place ≡ 0
+
 -- What each outcome says of the text.
 abbrev pub Says : List ℕ → Outcome → List ℕ → Type 0
-Says s (Refused number place) sets = text.Refused s number place ⊎ ((f : Formula) × text.Accepted s f × (mostLetters < length (letters f)) × (number ≡ 22) × (place ≡ 0))
+Says s (Refused number place) sets = text.Refused s number place ⊎ TooManyLetters s number place
 Says s Passes sets = (f : Formula) × Screenable s f × HoldsOnFork f
 Says s Falls sets = (f : Formula) × Screenable s f × FirstRefuting f sets
 

@@ -1,5 +1,5 @@
 -- What is printed of a screened text is one short line.
-use mathlib.Core.Bool.{true, false, cond}
+use mathlib.Core.Bool.{false}
 use mathlib.Core.List.{List, [], _∷_, _++_}
 use mathlib.Core.Option.{Option, none, some}
 use mathlib.Core.Path.{_≡_, sym, ap, ap₂, _∙_, subst}
@@ -13,7 +13,6 @@ use lib.Seq.{take-all}
 use borrow.Author.Tests.{ltb-false}
 use Rattle.atoms.proofs.Truth.{by-cond}
 use Rattle.ipl.specs.First.{firstFailing}
-use Rattle.ipl.specs.Formula.{Formula}
 use Rattle.ipl.specs.Lists.{All}
 use Rattle.syntax.specs.Judge as judgement
 use Rattle.syntax.specs.Judge.{Judgement, judge, Right}
@@ -21,7 +20,7 @@ use Rattle.syntax.proofs.Judge.{judge-right}
 use Rattle.fork.specs.Fork.{whole, setCount}
 use Rattle.fork.specs.Screen as fork
 use Rattle.fork.specs.Screen.{mostLetters, letters, assignment, givesWhole, Screening, fallsAt, screened, screening}
-use Rattle.fork.specs.Answer.{ScreenedAs, setsOf}
+use Rattle.fork.specs.Answer.{ScreenedAs}
 use Rattle.fork.specs.declared.Screened.{Screened}
 use Rattle.fork.proofs.Digits.{assignment-length, assignment-sets}
 use Rattle.certificate.specs.Format.{each}

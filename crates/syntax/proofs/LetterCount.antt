@@ -6,9 +6,9 @@ use native.Mathlib.Numerals.{add-one}
 use native.Mathlib.Omega.{arith}
 use lib.ListN.{length, getD, drop, drop-of-length-le}
 use lib.Seq.{drop-cons}
-use Rattle.syntax.specs.Nodes.{Entry, letter, falsum, compound, named}
+use Rattle.syntax.specs.Nodes.{Entry, letter, falsum, compound}
 use Rattle.syntax.specs.Letters.{lettersOf, letterCount, lettersIn}
-use Rattle.syntax.specs.Parts.{entryOf, held, room, Sound}
+use Rattle.syntax.specs.Parts.{entryOf, held, Sound}
 use Rattle.syntax.specs.declared.Node.{Node}
 use Rattle.syntax.specs.declared.Parts.{Parts}
 use Rattle.syntax.proofs.Held.{held-length, held-at}
@@ -19,7 +19,7 @@ letters-first (letter l) T = omega arith
 letters-first falsum T = omega arith
 letters-first (compound c a b) T = omega arith
 
-pub letters-within : (T : List Entry) → letterCount T ≤ length T
+letters-within : (T : List Entry) → letterCount T ≤ length T
 unfolding lettersOf
 letters-within [] = omega arith
 letters-within (letter k ∷ T) = omega (arith, letters-within T)

@@ -2,7 +2,6 @@
 use Rattle.syntax.proofs.Reader.{read-as, refused-as}
 use Rattle.fork.proofs.Texts.{answer-refused, part-tabled, answer-many, answer-few}
 use borrow.Author.Needs.{needs}
-use native.Mathlib.Omega.{arith}
 use Rattle.fork.proofs.screen.Statement.{statement}
 use Rattle.fork.proofs.screen.Tie as tie
 

@@ -1,5 +1,5 @@
 -- By the kind of the part.
-use mathlib.Core.Path.{_≡_, sym, ap, _∙_}
+use mathlib.Core.Path.{sym, ap, _∙_}
 use Rattle.syntax.specs.Parts.{entryOf}
 use Rattle.syntax.specs.declared.Part.{Part}
 use Rattle.fork.specs.Cells.{entryValue}

@@ -1,6 +1,5 @@
 -- The word, the number of each set, the end of the line.
-use mathlib.Core.Path.{_≡_, sym, ap, _∙_}
-use Prim.Native.Nat.{_≤_}
+use mathlib.Core.Path.{_≡_, sym, ap}
 use lib.ListN.{length}
 use lib.Seq.{length-take-le}
 use Rattle.certificate.specs.Format.{each}
