@@ -2,7 +2,7 @@
 use mathlib.Core.Bool.{false}
 use mathlib.Core.List.{List, [], _∷_, _++_}
 use mathlib.Core.Option.{Option, none, some}
-use mathlib.Core.Path.{_≡_, sym, ap, ap₂, _∙_, subst}
+use mathlib.Core.Path.{_≡_, refl, sym, ap, ap₂, _∙_, subst}
 use Prim.Native.Nat.{ℕ, _+_, _*_, _^_, _≤_, min}
 use native.Mathlib.Decide.{decLe}
 use native.Mathlib.Nat.{min-eq-left}
@@ -20,15 +20,17 @@ use Rattle.syntax.proofs.Judge.{judge-right}
 use Rattle.fork.specs.Fork.{whole, setCount}
 use Rattle.fork.specs.Screen as fork
 use Rattle.fork.specs.Screen.{mostLetters, letters, assignment, givesWhole, Screening, fallsAt, screened, screening}
-use Rattle.fork.specs.Answer.{ScreenedAs}
+use Rattle.fork.specs.Answer.{setsOf, ScreenedAs}
+use Rattle.fork.specs.declared.Outcome.the-variants.{Refused, Passes, Falls}
 use Rattle.fork.specs.declared.Screened.{Screened}
+use Rattle.fork.proofs.Right.{screen-right}
 use Rattle.fork.proofs.Digits.{assignment-length, assignment-sets}
 use Rattle.certificate.specs.Format.{each}
 use Rattle.text.specs.Text.{ascii}
 use Rattle.text.specs.Output.{longest, Reported, Gives}
 use Rattle.text.proofs.Appending.{reported-gives}
 use Rattle.text.proofs.Lengths.{labelled-length, refusal-length}
-use Rattle.report.specs.Screening.{setFigure, fallsLine, passesLine, screeningLine, outcomeLine, screenedLine, screenLine}
+use Rattle.report.specs.Screening.{setFigure, fallsLine, passesLine, screeningLine, outcomeLine, screenedLine, screenLine, ScreenPrinted}
 use Rattle.report.proofs.Fitting.{text-refusal-short}
 
 pub sets-told : (sets : List ℕ) (n k : ℕ) → length sets ≡ mostLetters → k ≡ min n mostLetters → take k sets ≡ take n sets
@@ -42,6 +44,25 @@ pub line-is : (o : Screening) (r : Screened) → ScreenedAs o r → screenedLine
 line-is (fork.refused number place) r a = ap₂ outcomeLine (a .0) (a .1)
 line-is fork.passes r a = ap₂ outcomeLine (a .0) (a .1)
 line-is (fork.falls sets) r a = ap₂ outcomeLine (a .0) (a .1)
+
+-- An answer of each screening.
+pub toldOf : Screening → Screened
+toldOf (fork.refused number place) = record { outcome = Refused number place; letters = 0; sets = [] }
+toldOf fork.passes = record { outcome = Passes; letters = 0; sets = [] }
+toldOf (fork.falls sets) = record { outcome = Falls; letters = length sets; sets = sets }
+
+pub told-as : (o : Screening) → ScreenedAs o (toldOf o)
+unfolding toldOf
+told-as (fork.refused number place) = (refl, refl)
+told-as fork.passes = (refl, refl)
+told-as (fork.falls sets) = (refl, take-all (length sets) sets (omega arith))
+
+-- What is printed of a text is right.
+pub screen-printed : (s : List ℕ) → ScreenPrinted s
+screen-printed s =
+    let o = screening (judge s) in
+    let r = toldOf o in
+    (r .outcome, setsOf r, sym (line-is o r (told-as o)), screen-right s r (told-as o) .says)
 
 figures-length : (sets : List ℕ) → All (λ s. s ≤ whole) sets → length (each setFigure sets) ≤ 3 * length sets
 unfolding each setFigure ascii

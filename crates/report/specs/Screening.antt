@@ -1,10 +1,11 @@
 -- What is printed of a screened text: `passes`, `falls V1 ..`, `refused K` or `refused 3 at P`.
 use mathlib.Core.List.{List, _++_}
+use mathlib.Core.Path.{_≡_}
 use Prim.Native.Nat.{ℕ}
 use Rattle.syntax.specs.Judge.{judge}
 use Rattle.fork.specs.Screen as fork
 use Rattle.fork.specs.Screen.{Screening, screening}
-use Rattle.fork.specs.Answer.{setsOf}
+use Rattle.fork.specs.Answer.{setsOf, Says}
 use Rattle.fork.specs.declared.Outcome.{Outcome}
 use Rattle.fork.specs.declared.Outcome.the-variants.{Refused, Passes, Falls}
 use Rattle.fork.specs.declared.Screened.{Screened}
@@ -39,3 +40,7 @@ screenedLine r = outcomeLine (r .outcome) (setsOf r)
 -- From the text's bytes.
 abbrev pub screenLine : List ℕ → List ℕ
 screenLine s = screeningLine (screening (judge s))
+
+-- The line printed of a text is that of an outcome, and what the outcome says of the text is so.
+abbrev pub ScreenPrinted : List ℕ → Type 0
+ScreenPrinted s = (o : Outcome) × (sets : List ℕ) × (screenLine s ≡ outcomeLine o sets) × Says s o sets

@@ -5,8 +5,6 @@ use mathlib.Core.Path.{_≡_, refl, sym, ap, subst}
 use Prim.Native.Nat.{ℕ, _≤_}
 use native.Mathlib.Omega.{arith}
 use lib.Dec.{T, eqb}
-use lib.ListN.{length}
-use lib.Seq.{take-all}
 use Rattle.atoms.proofs.Truth.{T-inl}
 use Rattle.ipl.specs.Formula.{Formula}
 use Rattle.ipl.specs.Kripke.{Model, IsModel, forces}
@@ -32,7 +30,6 @@ use Rattle.fork.specs.Answer as onFork
 use Rattle.fork.specs.Answer.{setsOf, onLetters, ScreenedAs}
 use Rattle.fork.specs.declared.Outcome as told
 use Rattle.fork.specs.declared.Outcome.the-variants.{Falls}
-use Rattle.fork.specs.declared.Screened.{Screened}
 use Rattle.fork.proofs.Right.{screen-right}
 use Rattle.clausify.specs.Naming.{textBook, goalOf}
 use Rattle.clausify.specs.Demand as clausify
@@ -42,6 +39,7 @@ use Rattle.text.specs.Text.{ascii, refusal}
 use Rattle.report.specs.Report.{refutedReport}
 use Rattle.report.specs.Printed.{printedEnd, printedAs, printed}
 use Rattle.report.specs.Screening.{fallsLine, passesLine, screeningLine}
+use Rattle.report.proofs.Screened.{toldOf, told-as}
 use Rattle.zestanchor.specs.Screening.{FallsNeverValid, FallsNeverPrintedValid}
 
 -- The root of every model forces the formula.
@@ -72,9 +70,10 @@ falls-told (screen.falls t) sets e = (t, refl)
 
 falls-says : (s t : List ℕ) → screening (judge s) ≡ screen.falls t → onFork.Says s Falls t
 falls-says s t e =
-    let r : Screened = record { outcome = Falls; letters = length t; sets = t } in
-    let all : setsOf r ≡ t = take-all (length t) t (omega arith) in
-    subst (onFork.Says s Falls) all (screen-right s r (subst (λ (o : Screening). ScreenedAs o r) (sym e) (refl, all)) .says)
+    let r = toldOf (screen.falls t) in
+    let answer = told-as (screen.falls t) in
+    let says = screen-right s r (subst (λ (o : Screening). ScreenedAs o r) (sym e) answer) .says in
+    subst (λ (o : told.Outcome). onFork.Says s o t) (answer .0) (subst (onFork.Says s (r .outcome)) (answer .1) says)
 
 -- ---- the bytes of the report
 
