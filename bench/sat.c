@@ -1,6 +1,9 @@
 /* Times the proved classical question beside a plain copy of the same algorithm in C, in one run, on three kinds of questions:
    random three-literal clauses over 40 atoms, all questions of random formulas of the usual size, and those of hard patterns.
-   Prints one line a kind: questions, microseconds a question for each, and the ratio. */
+   Prints one line a kind: questions, microseconds a question for each, and the ratio.
+   With the argument `hostile` it reads clause tables instead, each a line `name atoms rows` and then a line `left right` for each
+   row, and asks whether they prove false. Prints one line a table: atoms, clauses, seconds for each, and the ratio. */
+#include <inttypes.h>
 #include <stdbool.h>
 #include <stdint.h>
 #include <stdio.h>
@@ -13,19 +16,23 @@ typedef uint64_t u64;
 bool zestanchor_ask(const u64 *left, size_t left_len, const u64 *right, size_t right_len, size_t count, uint8_t n,
                     const u64 *given, size_t given_len, uint8_t asked, u64 *model, size_t model_len);
 
-/* ---- the copy in C */
+/* ---- the copy in C: the search */
 
 typedef struct { const u64 *left, *right; size_t count; } Table;
 typedef struct { u64 has, lacks; } Partial;
-typedef struct { bool found; u64 model; Partial rests; } Found;
+
+static u64 single(int x) { return x < 64 ? (u64)1 << x : 0; }
+static int highest(u64 s) { return 63 - __builtin_clzll(s); }
+static int lowest(u64 s) { return __builtin_ctzll(s); }
+static u64 without_lowest(u64 s) { return s & (s - 1); }
 
 static bool unit(u64 l, u64 r, Partial *p) {
   u64 a = l & ~p->has, b = r & ~p->lacks, open = a | b;
-  if ((l & p->lacks) | (r & p->has) | (open & (open - 1))) return true;
+  if ((l & p->lacks) | (r & p->has) | without_lowest(open)) return true;
   if (!a) {
     if (!b) return false;
-    if (!(b & (b - 1))) p->has |= b;
-  } else if (!b && !(a & (a - 1))) {
+    p->has |= b;
+  } else if (!b) {
     p->lacks |= a;
   }
   return true;
@@ -46,7 +53,7 @@ static Propagated raise_failing(const Table *t, Partial *p) {
   for (size_t i = failing(t, 0, p->has); i < t->count; i = failing(t, i + 1, p->has)) {
     u64 b = t->right[i] & ~p->lacks;
     if (!b) return CONFLICT;
-    if (b & (b - 1)) return OPEN;
+    if (without_lowest(b)) return OPEN;
     p->has |= b;
   }
   return MODEL;
@@ -63,44 +70,272 @@ static Propagated propagate(const Table *t, Partial *p) {
   }
 }
 
-static Partial dropped(const Table *t, Partial base, Partial rest, u64 x) {
-  Partial less = {rest.has & ~x, rest.lacks & ~x};
-  if (less.has == rest.has && less.lacks == rest.lacks) return rest;
-  Partial known = {base.has | less.has, base.lacks | less.lacks};
-  return known.has & known.lacks || propagate(t, &known) == CONFLICT ? less : rest;
+typedef enum { LEAST, BLOCKED, GAVE_UP } Found;
+static const u64 PATIENCE = 8, NO_LIMIT = ~(u64)0;
+
+static Found spent(u64 *conflicts) {
+  if (*conflicts == NO_LIMIT) return BLOCKED;
+  if (!*conflicts) return GAVE_UP;
+  --*conflicts;
+  return BLOCKED;
 }
 
-static u64 without_lowest(u64 s) { return s & (s - 1); }
-
-static Partial needed(const Table *t, Partial base, Partial decided) {
-  Partial rest = dropped(t, base, decided, without_lowest(decided.has | decided.lacks));
-  for (u64 untried = without_lowest(rest.has | rest.lacks); untried; untried = without_lowest(untried))
-    rest = dropped(t, base, rest, untried & -untried);
-  return rest;
-}
-
-static Found least(const Table *t, Partial base, Partial known, Partial decided) {
+/* The smallest model of what is known, given up where more than so many conflicts are met. */
+static Found least(const Table *t, Partial known, u64 *conflicts, u64 *model) {
   Propagated end = propagate(t, &known);
-  if (end == CONFLICT) return (Found){false, 0, needed(t, base, decided)};
-  if (end == MODEL) return (Found){true, known.has, {0, 0}};
+  if (end == CONFLICT) return spent(conflicts);
+  if (end == MODEL) return *model = known.has, LEAST;
   u64 open = ~(known.has | known.lacks);
-  if (!open) return (Found){false, 0, decided};
-  u64 x = (u64)1 << (63 - __builtin_clzll(open));
-  Found f = least(t, base, (Partial){known.has, known.lacks | x}, (Partial){decided.has, decided.lacks | x});
-  if (f.found || !(x & f.rests.lacks)) return f;
-  Found g = least(t, base, (Partial){known.has | x, known.lacks}, (Partial){decided.has | x, decided.lacks});
-  if (g.found || !(x & g.rests.has)) return g;
-  return (Found){false, 0, {(f.rests.has | g.rests.has) & ~x, (f.rests.lacks | g.rests.lacks) & ~x}};
+  if (!open) return spent(conflicts);
+  u64 x = single(highest(open));
+  Found f = least(t, (Partial){known.has, known.lacks | x}, conflicts, model);
+  return f == BLOCKED ? least(t, (Partial){known.has | x, known.lacks}, conflicts, model) : f;
 }
 
-static u64 single(int x) { return x < 64 ? (u64)1 << x : 0; }
+/* ---- the copy in C: rows learned */
+
+/* Rows of the longer table; no row and no place; where the lists of literals begin; turns at most. */
+enum { LONG = 1024 + 4096, NONE = 65535, HEADS = 4 * LONG, TURNS = 1 << 26 };
+
+/* An atom, and the row that forced it; a decision has NONE. */
+typedef struct { uint16_t atom, reason; } Assigned;
+/* A clause, and the atoms that it and those that it was made of have. */
+typedef struct { u64 left, right, met; } Clause;
+
+/* A table with room for rows that follow from its `own`; what was assigned, how much of that was followed, and a row that fails;
+   the atom from which on all are decided in falling order. In `links` each row has two places of two numbers: the next place in the
+   list of a literal that it watches, and that literal, which is 2x for atom x on the left and 2x + 1 on the right. */
+typedef struct {
+  u64 left[LONG], right[LONG];
+  size_t own, total;
+  Partial base, known;
+  Assigned trail[64];
+  size_t length, followed, fails;
+  int ordered;
+  uint16_t activity[64], links[HEADS + 128];
+} Learning;
+
+static u64 atoms_of(const Clause *k) { return k->left | k->right; }
+static size_t list_of(int x, bool on_left) { return HEADS + 2 * x + !on_left; }
+
+static void assign(Learning *s, int x, bool had, size_t reason) {
+  s->trail[s->length++] = (Assigned){x, reason};
+  *(had ? &s->known.has : &s->known.lacks) |= single(x);
+}
+
+/* Puts the row at a place into the list of an atom of it. */
+static void watch(Learning *s, size_t place, int x, u64 left) {
+  size_t list = list_of(x, left & single(x));
+  s->links[place] = s->links[list];
+  s->links[place + 1] = list - HEADS;
+  s->links[list] = place;
+}
+static void watch_two(Learning *s, size_t row, int x, int y, u64 left) {
+  watch(s, 4 * row, x, left);
+  watch(s, 4 * row + 2, y, left);
+}
+
+/* Looks at the row whose place stands at `at`, one of whose watched atoms became false: it is true, it fails, it forces its last
+   open atom, or another open atom is watched. Where the next place stands is the result. */
+static size_t visit(Learning *s, size_t at) {
+  size_t place = s->links[at], row = place / 4;
+  u64 l = s->left[row], r = s->right[row];
+  if ((l & s->known.lacks) | (r & s->known.has)) return place;
+  u64 a = l & ~s->known.has, open = a | (r & ~s->known.lacks);
+  if (!open) return s->fails = row, place;
+  size_t other = place ^ 2;
+  u64 rest = open & ~single(s->links[other + 1] / 2);
+  if (!rest) return assign(s, highest(open), !a, row), place;
+  s->links[at] = s->links[place];
+  watch(s, place, highest(rest), a);
+  return at;
+}
+
+/* Looks at the rows that the atoms assigned and not yet followed may force or falsify, until one fails. */
+static void follow(Learning *s) {
+  while (s->followed < s->length && s->fails == NONE) {
+    int x = s->trail[s->followed++].atom;
+    size_t at = list_of(x, s->known.has & single(x));
+    while (s->links[at] != NONE && s->fails == NONE) at = visit(s, at);
+  }
+}
+
+/* Looks at a row where nothing is decided. */
+static void enter(Learning *s, size_t row) {
+  u64 l = s->left[row], r = s->right[row];
+  if ((l & (r | s->known.lacks)) | (r & s->known.has)) return;
+  u64 a = l & ~s->known.has, open = a | (r & ~s->known.lacks), rest = without_lowest(open);
+  if (!open) s->fails = row;
+  else if (!rest) assign(s, highest(open), !a, row);
+  else watch_two(s, row, highest(rest), lowest(open), a);
+}
+
+static void start(Learning *s) {
+  memset(&s->links[HEADS], 0xff, 128 * sizeof s->links[0]);
+  s->known = s->base, s->length = s->followed = 0, s->fails = NONE;
+  for (size_t row = 0; row < s->total; row++) enter(s, row);
+  follow(s);
+}
+
+static void resolve(const Learning *s, Clause *k, Assigned by) {
+  u64 x = single(by.atom), l = s->left[by.reason], r = s->right[by.reason];
+  bool on_right = k->right & x;
+  k->left = on_right ? k->left | (l & ~x) : (k->left & ~x) | l;
+  k->right = on_right ? (k->right & ~x) | r : k->right | (r & ~x);
+  k->met |= l | r;
+}
+
+/* Resolves with the reasons of the atoms wanted, last assigned first, until one atom of the level is left; to the end where there is
+   no level. */
+static void resolve_back(const Learning *s, Clause *k, u64 wanted, u64 level) {
+  for (size_t p = s->length; p && !(level && !without_lowest(atoms_of(k) & level)); p--) {
+    Assigned by = s->trail[p - 1];
+    if (by.reason != NONE && atoms_of(k) & wanted & single(by.atom)) resolve(s, k, by);
+  }
+}
+
+/* The atoms whose reason has no other atoms than known ones and such atoms. */
+static u64 redundant(const Learning *s, u64 known) {
+  u64 found = 0;
+  for (size_t p = 0; p < s->length; p++) {
+    size_t row = s->trail[p].reason;
+    u64 x = single(s->trail[p].atom);
+    if (row != NONE && !((s->left[row] | s->right[row]) & ~(x | known | found))) found |= x;
+  }
+  return found;
+}
+
+/* What the row that fails teaches. */
+static Clause analyse(const Learning *s, u64 level) {
+  u64 l = s->left[s->fails], r = s->right[s->fails];
+  Clause k = {l, r, l | r};
+  resolve_back(s, &k, ~(u64)0, level);
+  resolve_back(s, &k, redundant(s, atoms_of(&k) | s->base.has | s->base.lacks), 0);
+  return k;
+}
+
+/* The last decision and the atoms assigned after it; none where nothing is decided. */
+static u64 last_level(const Learning *s) {
+  u64 found = 0;
+  for (size_t p = s->length; p; p--) {
+    found |= single(s->trail[p - 1].atom);
+    if (s->trail[p - 1].reason == NONE) return found;
+  }
+  return 0;
+}
+
+/* How many atoms were assigned up to the last one of a set. */
+static size_t up_to_last(const Learning *s, u64 wanted) {
+  size_t p = s->length;
+  while (p && !(wanted & single(s->trail[p - 1].atom))) p--;
+  return p;
+}
+
+/* Back to the end of the level of the `kept`th atom. */
+static void go_back(Learning *s, size_t kept) {
+  u64 passed = 0, gone = 0;
+  for (size_t p = s->length; p > kept; p--) {
+    passed |= single(s->trail[p - 1].atom);
+    if (s->trail[p - 1].reason == NONE) gone = passed, s->length = p - 1;
+  }
+  s->known.has &= ~gone, s->known.lacks &= ~gone;
+  s->followed = s->length, s->fails = NONE;
+}
+
+static void raise_activity(Learning *s, u64 met) {
+  for (; met; met = without_lowest(met))
+    if (s->activity[lowest(met)] < 32768) s->activity[lowest(met)] += 256;
+  if (s->total % 16 == 0)
+    for (int x = 0; x < 64; x++) s->activity[x] /= 2;
+}
+
+/* Learns from the row that fails, and goes on where the new row forces an atom; not where nothing is decided. */
+static bool learn_row(Learning *s) {
+  u64 level = last_level(s);
+  Clause k = analyse(s, level);
+  raise_activity(s, k.met);
+  size_t row = s->total++;
+  s->left[row] = k.left, s->right[row] = k.right;
+  if (!level) return false;
+  size_t kept = up_to_last(s, atoms_of(&k) & ~level);
+  int x = highest(atoms_of(&k) & level);
+  go_back(s, kept);
+  if (kept) watch_two(s, row, x, s->trail[kept - 1].atom, k.left);
+  assign(s, x, !(k.left & single(x)), row);
+  follow(s);
+  return true;
+}
+
+static int busiest(const Learning *s, u64 atoms) {
+  int best = lowest(atoms);
+  for (; atoms; atoms = without_lowest(atoms))
+    if (s->activity[lowest(atoms)] > s->activity[best]) best = lowest(atoms);
+  return best;
+}
+
+static void decide(Learning *s, u64 open) {
+  assign(s, s->ordered <= highest(open) ? highest(open) : busiest(s, open), false, NONE);
+  follow(s);
+}
+
+/* At a model: back to the start, with one atom more of it to be decided in order; not where there is none. */
+static bool lower(Learning *s) {
+  u64 ordered = s->ordered < 64 ? ~(single(s->ordered) - 1) : 0, below = s->known.has & ~(ordered | s->base.has);
+  if (!below) return false;
+  s->ordered = highest(below);
+  go_back(s, 0);
+  return true;
+}
+
+static size_t literals(const Learning *s, size_t row) {
+  return __builtin_popcountll(s->left[row]) + __builtin_popcountll(s->right[row]);
+}
+
+/* Whether one of the 127 rows after a row is part of it. */
+static bool includes_later(const Learning *s, size_t row) {
+  for (size_t later = row + 1; later < s->total && later < row + 128; later++)
+    if (!((s->left[later] & ~s->left[row]) | (s->right[later] & ~s->right[row]))) return true;
+  return false;
+}
+
+/* Of the learned rows go those longer than the average, and those that include a later one. */
+static void shorten(Learning *s) {
+  size_t sum = 0, to = s->own;
+  for (size_t row = s->own; row < s->total; row++) sum += literals(s, row);
+  size_t most = sum / (s->total - s->own);
+  for (size_t row = s->own; row < s->total; row++) {
+    if (literals(s, row) > most || includes_later(s, row)) continue;
+    s->left[to] = s->left[row], s->right[to++] = s->right[row];
+  }
+  s->total = to;
+}
+
+/* One turn: room is made, a row is learned, or an atom is decided. Whether it is not over. */
+static bool turn(Learning *s) {
+  if (s->total == LONG) return shorten(s), start(s), s->total < LONG;
+  if (s->fails != NONE) return learn_row(s);
+  u64 open = ~(s->known.has | s->known.lacks);
+  return open ? decide(s, open), true : lower(s);
+}
+
+static Found least_of_longer(const Table *t, Partial base, u64 *model) {
+  static Learning s;
+  memcpy(s.left, t->left, t->count * sizeof(u64));
+  memcpy(s.right, t->right, t->count * sizeof(u64));
+  memset(s.activity, 0, sizeof s.activity);
+  s.own = s.total = t->count, s.base = base, s.ordered = 64;
+  start(&s);
+  for (int turns = TURNS; turns && turn(&s); turns--);
+  u64 conflicts = NO_LIMIT;
+  return least(&(Table){s.left, s.right, s.total}, base, &conflicts, model);
+}
 
 static bool ask_c(const Table *t, int n, u64 given, int asked, u64 *model) {
   Partial base = {given, (n < 64 ? ~(((u64)1 << n) - 1) : 0) | single(asked)};
   if (base.has & base.lacks) return true;
-  Found f = least(t, base, base, (Partial){0, 0});
-  if (f.found) *model = f.model;
-  return !f.found;
+  u64 conflicts = PATIENCE;
+  Found f = least(t, base, &conflicts, model);
+  return (f == GAVE_UP ? least_of_longer(t, base, model) : f) == BLOCKED;
 }
 
 /* ---- questions, recorded */
@@ -269,14 +504,16 @@ static double seconds(void) {
   clock_gettime(CLOCK_MONOTONIC, &t);
   return t.tv_sec + t.tv_nsec * 1e-9;
 }
+static bool ask(bool proved, const Question *q, u64 *model) {
+  if (proved) return zestanchor_ask(q->left, ROWS, q->right, ROWS, q->count, q->n, &q->given, 1, q->asked, model, 1);
+  return ask_c(&(Table){q->left, q->right, q->count}, q->n, q->given, q->asked, model);
+}
 static double run(bool proved, size_t *yes) {
   double start = seconds();
   *yes = 0;
   for (size_t k = 0; k < question_count; k++) {
-    Question *q = &questions[k];
     u64 m = 0;
-    *yes += proved ? zestanchor_ask(q->left, ROWS, q->right, ROWS, q->count, q->n, &q->given, 1, q->asked, &m, 1)
-                   : ask_c(&(Table){q->left, q->right, q->count}, q->n, q->given, q->asked, &m);
+    *yes += ask(proved, &questions[k], &m);
     *yes += m * 2;
   }
   return seconds() - start;
@@ -295,7 +532,7 @@ static void compare(const char *kind) {
   question_count = 0;
 }
 
-int main(void) {
+static void compare_kinds(void) {
   printf("%-34s %9s %12s %12s %8s\n", "kind", "questions", "proved (us)", "C (us)", "ratio");
   for (int i = 0; i < 300; i++) random_clauses(40, 170);
   compare("random clauses, 40 atoms");
@@ -305,5 +542,53 @@ int main(void) {
   compare("pattern with 13 copies of (t=u)");
   for (int k = 5; k < 13; k++) copies("(t=u)", k), copies("(t|u)", 2 * k), copies("(~t|u)", k);
   compare("patterns of the same kind");
+}
+
+/* ---- hostile tables */
+
+/* The next table, and the question whether it proves false. */
+static bool read_question(char name[64], Question *q) {
+  if (scanf("%63s %d %zu", name, &q->n, &q->count) != 3) return false;
+  for (size_t i = 0; i < q->count; i++)
+    if (i == ROWS || scanf("%" SCNu64 " %" SCNu64, &q->left[i], &q->right[i]) != 2) {
+      fprintf(stderr, "%s has too many rows or too few\n", name);
+      exit(2);
+    }
+  q->given = 0, q->asked = 255;
+  return true;
+}
+
+typedef struct { double time; bool proved; u64 model; } Timed;
+
+static Timed timed(bool proved, const Question *q) {
+  Timed r = {0, false, 0};
+  double begin = seconds();
+  r.proved = ask(proved, q, &r.model);
+  r.time = seconds() - begin;
+  return r;
+}
+/* The better of two times where it is quick. */
+static Timed timed_well(bool proved, const Question *q) {
+  Timed once = timed(proved, q);
+  if (once.time >= 0.1) return once;
+  Timed again = timed(proved, q);
+  return again.time < once.time ? again : once;
+}
+
+static void compare_hostile(void) {
+  static Question q;
+  char name[64];
+  printf("%-24s %9s %9s %12s %12s %8s\n", "hostile table", "atoms", "clauses", "proved (s)", "C (s)", "ratio");
+  while (read_question(name, &q)) {
+    Timed proved = timed_well(true, &q), copy = timed_well(false, &q);
+    bool agree = proved.proved == copy.proved && proved.model == copy.model;
+    printf("%-24s %9d %9zu %12.4f %12.4f %8.2f %s\n", name, q.n, q.count, proved.time, copy.time, proved.time / copy.time,
+           agree ? "" : "ANSWERS DIFFER");
+  }
+}
+
+int main(int count, char **arguments) {
+  if (count > 1 && !strcmp(arguments[1], "hostile")) compare_hostile();
+  else compare_kinds();
   return 0;
 }

@@ -42,6 +42,11 @@ pub fn write(problem: &Problem, answer: &Answer) -> Vec<u8> {
     certificate
 }
 
+/// A certificate that claims these steps to be a derivation, right or not.
+pub fn claiming(problem: &Problem, steps: Vec<Step>) -> Vec<u8> {
+    write(problem, &Answer { verdict: Verdict::Valid, steps, questions: 0 })
+}
+
 fn step_bytes(step: &Step) -> Vec<u8> {
     let mut bytes = vec![step.implication];
     bytes.extend(step.assumed.to_le_bytes());

@@ -5,6 +5,7 @@ pub mod corpus;
 pub mod forcing;
 pub mod fork;
 pub mod formula;
+pub mod hostile;
 pub mod naming;
 pub mod program;
 pub mod proved;

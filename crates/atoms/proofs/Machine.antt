@@ -1,20 +1,21 @@
 -- The machine's words of 64 bits against the definitions: what the proofs of the functions cite.
-use mathlib.Core.Path.{_≡_, refl, ap, _∙_, subst}
+use mathlib.Core.Path.{_≡_, refl, sym, ap, _∙_, subst}
 use mathlib.Core.List.{List}
-use Prim.Native.Nat.{ℕ, _-_, _*_, _^_, _%_, _≤_, _<_, min}
-use native.Mathlib.Nat.{one-mul, mod-lt}
+use Prim.Native.Nat.{ℕ, suc, _+_, _-_, _*_, _^_, _%_, _≤_, _<_, min}
+use native.Mathlib.Decide.{decLt}
+use native.Mathlib.Nat.{one-mul, le-of-eq, zero-add}
 use native.Mathlib.Omega.{arith}
 use borrow.Author.Tests.{lt-ltb, le-ltb}
 use lib.Dec.{T, ltb, eqb→eq}
 use lib.Count.{leadingZeros, leading-top}
 use lib.ListN.{length, set, length-set}
-use lib.Pow.{pow-pos, ones-lt, shl-exact}
+use lib.Pow.{pow-pos, pow-mono, pow-lt, ones-lt, shl-exact}
 use lib.Seq.{getD-set-same, getD-set-other}
 use Rattle.atoms.specs.Sets.{bitAt, has, limit, single}
 use Rattle.atoms.proofs.Truth.{by-cond, false-T}
 use Rattle.atoms.proofs.Members.{has-empty, has-single}
 use Rattle.atoms.proofs.Bits.{bit-ones, bit-past}
-use Rattle.atoms.specs.Words.{num, everyAtom, singleOrEmpty, below, HighestOrEmpty, words, rowOf, rowCount, RowSet}
+use Rattle.atoms.specs.Words.{num, everyAtom, singleOrEmpty, below, HighestOrEmpty, HighestNumber, words, rowOf, rowCount, RowSet, RowsSet}
 
 -- ⊥ is atom number 255, past every atom.
 pub limit-small : limit ≤ 255
@@ -90,26 +91,33 @@ below-past n h = let e : 64 ≡ min n 64 = omega arith in ap (λ (k : ℕ). 2 ^ 
 pub leading-small : (a : ℕ) → 0 < a → a < 2 ^ 64 → leadingZeros 64 a ≤ 63
 leading-small a p h = let t = leading-top 64 a p h in omega arith
 
-pub highest-word : (a : ℕ) → 0 < a → a < 2 ^ 64 → HighestOrEmpty a (1 * 2 ^ (63 - leadingZeros 64 a) % 2 ^ 64)
-unfolding limit
+pub highest-word : (a : ℕ) → 0 < a → a < 2 ^ 64 → HighestNumber a (63 - leadingZeros 64 a)
 highest-word a p h =
     let t = leading-top 64 a p h in
-    let here : 63 - leadingZeros 64 a ≡ t .0 = omega (arith, t .1) in
+    let here : t .0 ≡ 63 - leadingZeros 64 a = omega (arith, t .1) in
     record {
       empty = λ e. absurd (omega arith);
-      highest = λ _.
-          record {
-            atom = t .0;
-            alone = one-shl (63 - leadingZeros 64 a) (omega arith) ∙ ap (λ (j : ℕ). 2 ^ j) here;
-            member = t .2;
-            above = t .3;
-          };
-      bounded = mod-lt (1 * 2 ^ (63 - leadingZeros 64 a)) (pow-pos 64);
+      member = λ _. subst (λ (j : ℕ). single j ≤ a) here (t .2);
+      above = subst (λ (j : ℕ). a < single (suc j)) here (t .3);
     }
 
-pub highest-none : (a : ℕ) → a ≡ 0 → HighestOrEmpty a a
+pub highest-none : (a : ℕ) → a ≡ 0 → HighestNumber a 64
 unfolding limit
-highest-none a e = record { empty = λ _. e; highest = λ h. absurd (omega arith); bounded = omega arith }
+highest-none a e = record { empty = λ _. refl; member = λ h. absurd (omega arith); above = omega arith }
+
+-- The highest atom alone, by its number.
+pub highest-single : (s r x : ℕ) → s < 2 ^ limit → HighestNumber s r → x ≡ singleOrEmpty r → HighestOrEmpty s x
+highest-single s r x l n e = record {
+  empty = λ z. e ∙ single-none r (le-of-eq (sym (n .empty z)));
+  highest = λ p. record { atom = r; alone = e ∙ single-bits r (small p); member = n .member p; above = n .above };
+  bounded = elim (decLt r limit) [
+    | yes k ↦ subst (λ (z : ℕ). z < 2 ^ limit) (sym (e ∙ single-bits r k)) (pow-lt k)
+    | no k ↦ subst (λ (z : ℕ). z < 2 ^ limit) (sym (e ∙ single-none r (omega arith))) (pow-pos limit)
+  ];
+}
+  where
+    small : 0 < s → r < limit
+    small p = elim (decLt r limit) [ yes k ↦ k | no k ↦ absurd (omega (arith, n .member p, pow-mono {i = limit} {j = r} (omega arith))) ]
 
 -- A store in a table of words, and none past its end.
 pub set-row : (t : List ℕ) (i x : ℕ) → i < length t → RowSet t i x (set t i x)
@@ -120,6 +128,36 @@ set-row t i x h =
 pub keep-row : (t : List ℕ) (i x : ℕ) → length t ≤ i → RowSet t i x t
 unfolding rowCount
 keep-row t i x h = record { size = refl; written = λ k. absurd (omega arith); others = λ j d. refl }
+
+-- Rows written one after the other, until all are or the table ends.
+module _ (before : List ℕ) (at : ℕ) (from : List ℕ) where
+  pub rows-none : RowsSet before at from 0 before
+  rows-none = record { size = refl; written = λ i h. absurd (omega arith); others = λ j d. refl }
+
+  pub rows-more : (i j x : ℕ) (mid after : List ℕ) → j ≡ at + i → x ≡ rowOf from i → RowsSet before at from i mid → RowSet mid j x after → RowsSet before at from (i + 1) after
+  unfolding rowCount
+  rows-more i j x mid after e ex h r = record {
+    size = r .size ∙ h .size;
+    written = λ k l room. elim (decLt k i) [
+      | yes m ↦ r .others (at + k) (λ d. absurd (omega arith)) ∙ h .written k m room
+      | no m ↦
+          let same : i ≡ k = omega arith in
+          subst (λ (z : ℕ). rowOf after (at + z) ≡ rowOf from z) same (subst (λ (z : ℕ). rowOf after z ≡ rowOf from i) e (r .written (omega (arith, h .size, ap (λ (z : ℕ). at + z) same)) ∙ ex))
+    ];
+    others = λ k d. r .others k (λ z. d i (omega arith) (z ∙ e)) ∙ h .others k (λ n l z. d n (omega arith) z);
+  }
+
+  pub rows-end : (i count : ℕ) (after : List ℕ) → i ≤ count → rowCount after ≤ at + i → RowsSet before at from i after → RowsSet before at from count after
+  unfolding rowCount
+  rows-end i count after l e h = record {
+    size = h .size;
+    written = λ k m room. h .written k (omega (arith, h .size)) room;
+    others = λ j d. h .others j (λ k m z. d k (omega arith) z);
+  }
+
+-- Rows written from the first row on.
+pub rows-first : (before from after : List ℕ) (count : ℕ) → RowsSet before 0 from count after → (i : ℕ) → i < count → i < rowCount before → rowOf after i ≡ rowOf from i
+rows-first before from after count w i h l = subst (λ (j : ℕ). rowOf after j ≡ rowOf from i) (zero-add i) (w .written i h (omega arith))
 
 -- A table of k rows' words has k rows.
 pub row-count : (t : List ℕ) (k : ℕ) → length t ≡ k * words → rowCount t ≡ k

@@ -11,8 +11,9 @@ use lib.Dec.{T, T-not, not-T, eqb, eqb→eq}
 use lib.Pow.{pow-lt}
 use borrow.Author.Tests.{eqb-true, eqb-false, eq-eqb}
 use Rattle.atoms.specs.Sets.{bitAt, has, single, union, minus, insert, remove, within, meets, withoutLowest}
+use Rattle.atoms.specs.Words.{HighestOrEmpty}
 use Rattle.atoms.proofs.Truth.{T-left, T-right, T-and, T-iff, true-T, false-T}
-use Rattle.atoms.proofs.Bits.{bit-le, by-bits, bit-and, bit-or, bit-minus, bit-first, bit-next, bit-one, bit-other, bit-past, bit-ext}
+use Rattle.atoms.proofs.Bits.{bit-le, by-bits, bit-and, bit-or, bit-minus, bit-first, bit-next, bit-one, bit-other, bit-past, bit-top, bit-order, bit-ext}
 
 -- ---- membership and bits
 
@@ -93,6 +94,15 @@ pub without-lowest-less : (s : ℕ) → eqb s 0 ≡ false → withoutLowest s < 
 without-lowest-less s e = elim (decLt 0 s) [
   | yes h ↦ omega (arith, and-le-r s (s - 1))
   | no h ↦ absurd (eqb-false s 0 e (omega arith))
+]
+
+pub without-highest-less : (s x : ℕ) → eqb s 0 ≡ false → HighestOrEmpty s x → minus s x < s
+without-highest-less s x e h = elim (decLt 0 s) [
+  | yes p ↦
+      let t = h .highest p in
+      let one = ap (λ (z : ℕ). bitAt z (t .atom)) (t .alone) ∙ bit-one (t .atom) in
+      bit-order (t .atom) _ _ (λ j _. omega (arith, bit-minus s x j)) (omega (arith, bit-minus s x (t .atom), bit-top (t .atom) s (t .member) (t .above), one))
+  | no p ↦ absurd (eqb-false s 0 e (omega arith))
 ]
 
 -- ---- inclusion

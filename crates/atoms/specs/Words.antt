@@ -2,7 +2,7 @@
 use mathlib.Core.Path.{_≡_}
 use mathlib.Core.Bool.{cond}
 use mathlib.Core.List.{List}
-use Prim.Native.Nat.{ℕ, _^_, _-_, _<_, min}
+use Prim.Native.Nat.{ℕ, suc, _+_, _^_, _-_, _≤_, _<_, min}
 use lib.Dec.{ltb}
 use lib.ListN.{length, getD}
 use Rattle.atoms.specs.Sets.{limit, single, Highest}
@@ -30,6 +30,12 @@ pub record HighestOrEmpty (s x : ℕ) : Type 0 where
   pub highest : 0 < s → Highest s x
   pub bounded : x < 2 ^ limit
 
+-- Atom r is the highest of s; of the empty set, r is past all atoms.
+pub record HighestNumber (s r : ℕ) : Type 0 where
+  pub empty : s ≡ 0 → r ≡ limit
+  pub member : 0 < s → single r ≤ s
+  pub above : s < single (suc r)
+
 -- How many words a set takes in a table.
 unfoldable pub words : ℕ
 words = 1
@@ -46,3 +52,9 @@ pub record RowSet (before : List ℕ) (i x : ℕ) (after : List ℕ) : Type 0 wh
   pub size : length after ≡ length before
   pub written : i < rowCount before → rowOf after i ≡ x
   pub others : (j : ℕ) → (j ≡ i → ⊥) → rowOf after j ≡ rowOf before j
+
+-- after is before with the first `count` rows of `from` in the rows from `at` on; past the end nothing is written.
+pub record RowsSet (before : List ℕ) (at : ℕ) (from : List ℕ) (count : ℕ) (after : List ℕ) : Type 0 where
+  pub size : length after ≡ length before
+  pub written : (i : ℕ) → i < count → at + i < rowCount before → rowOf after (at + i) ≡ rowOf from i
+  pub others : (j : ℕ) → ((i : ℕ) → i < count → j ≡ at + i → ⊥) → rowOf after j ≡ rowOf before j

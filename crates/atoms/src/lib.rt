@@ -5,7 +5,7 @@ ghost use Prim.Native.Nat.{_+_, _*_, _/_, _%_, _^_, _<_};
 ghost use lib.Dec.{eqb, leb, ltb};
 ghost use Rattle.atoms.specs.Sets.{limit, has, union, common, minus, within, meets, withoutLowest};
 ghost use Rattle.atoms.specs.Bytes.{digits, numberAt, putAt};
-ghost use Rattle.atoms.specs.Words.{num, everyAtom, singleOrEmpty, below, HighestOrEmpty, rowOf, rowCount, RowSet};
+ghost use Rattle.atoms.specs.Words.{num, everyAtom, singleOrEmpty, below, HighestOrEmpty, HighestNumber, rowOf, rowCount, RowSet, RowsSet};
 
 pub mod little_endian;
 
@@ -13,7 +13,7 @@ pub mod little_endian;
 pub const WORDS: usize = 1;
 
 // How many atoms there is room for.
-const LIMIT: u8 = 64;
+pub const LIMIT: u8 = 64;
 
 pub struct AtomSet {
     pub bits: u64,
@@ -153,12 +153,17 @@ impl AtomSet {
     pub fn highest(self) -> Self
         ensures { λ r. ⌜ HighestOrEmpty (num self) (num r) ⌝ }
     {
+        AtomSet::single(self.highest_number())
+    }
+
+    // The number of the highest atom; of the empty set, the number past all atoms.
+    pub fn highest_number(self) -> u8
+        ensures { λ r. ⌜ HighestNumber (num self) r ⌝ }
+    {
         if self.bits == 0 {
-            return self;
+            return LIMIT;
         }
-        AtomSet {
-            bits: 1 << (63 - u64::leading_zeros(self.bits)),
-        }
+        (63 - u64::leading_zeros(self.bits)) as u8
     }
 
     // Self without its lowest atom; of the empty set, the empty set.
@@ -230,6 +235,23 @@ pub fn set_row(table: &mut [u64], i: usize, s: AtomSet)
 {
     if i < table.len() {
         table[i] = s.bits;
+    }
+}
+
+// Writes the first `count` rows of a table to the rows of another from `at` on; past its end, nothing.
+pub fn copy_rows(from: &[u64], to: &mut [u64], at: usize, count: usize)
+    ensures { λ _. ⌜ RowsSet (now (to .entry)) at (now (from .entry)) count (now (to .exit)) ⌝ }
+{
+    let mut i = 0;
+    let mut j = at;
+    while i < count {
+        if rows(to) <= j {
+            return;
+        }
+        let s = row(from, i);
+        set_row(to, j, s);
+        i += 1;
+        j += 1;
     }
 }
 

@@ -1,5 +1,5 @@
 -- What the code's values say of the bytes.
-use mathlib.Core.Bool.{Bool, true, false}
+use mathlib.Core.Bool.{true, false}
 use mathlib.Core.List.{List, _++_}
 use mathlib.Core.Logic.{_⊎_}
 use mathlib.Core.Option.{Option, none, some}
@@ -14,6 +14,8 @@ use Rattle.ipl.specs.Range.{implicationInRange}
 use Rattle.ipl.specs.Clause.{Implication}
 use Rattle.ipl.specs.Search.{Step, known}
 use Rattle.sat.specs.Table.{clauses}
+use Rattle.sat.specs.Learning.{Follow}
+use Rattle.sat.specs.declared.Proof.{Proof}
 use Rattle.certificate.specs.Certificate.{Problem, Claim, Judgement, accepted, refused}
 use Rattle.certificate.specs.Format.{setBytes, flatBytes, entryBytes, bodiesStart, implicationStart, claimStart, totalLength, longestAccepted}
 use Rattle.certificate.specs.Layout.{flatsIn, stepsIn, worldsIn, rowsIn, entryRight}
@@ -122,21 +124,23 @@ pub record StepsReady (s : List ℕ) (k : Contents) (left right : List ℕ) : Ty
   pub room-right : k .flats + k .rows ≤ rowCount right
   pub loaded : clauses left right (k .flats) ≡ flatsIn s (k .flats)
 
--- Before step i: the tables hold the flat clauses and those of the first i steps.
-pub record StepReady (s : List ℕ) (k : Contents) (i : ℕ) (left right : List ℕ) : Type 0 where
+-- Before step i: the tables hold the flat clauses and those of the first i steps, from which the rows kept follow.
+pub record StepReady (s : List ℕ) (k : Contents) (i : ℕ) (left right keptLeft keptRight : List ℕ) (kept : ℕ) : Type 0 where
   pub ranged : Ranged s k
   pub derives : k .refuting ≡ false
   pub listed : i < k .rows
   pub room-left : k .flats + k .rows ≤ rowCount left
   pub room-right : k .flats + k .rows ≤ rowCount right
   pub loaded : clauses left right (k .flats + i) ≡ known (problemBy s k .flats) (problemBy s k .implications) (take i (stepsBy s k))
+  pub follow : Follow left right (k .flats + i) keptLeft keptRight kept
 
 -- After it.
-pub record StepJudged (s : List ℕ) (k : Contents) (i : ℕ) (left right left-after right-after : List ℕ) (r : Bool) : Type 0 where
-  pub judged : r ≡ stepProves (problemBy s k) (stepsBy s k) i
+pub record StepJudged (s : List ℕ) (k : Contents) (i : ℕ) (left right left-after right-after keptLeft keptRight : List ℕ) (r : Proof) : Type 0 where
+  pub judged : r .proved ≡ stepProves (problemBy s k) (stepsBy s k) i
   pub size-left : length left-after ≡ length left
   pub size-right : length right-after ≡ length right
   pub loaded : clauses left-after right-after (k .flats + (i + 1)) ≡ known (problemBy s k .flats) (problemBy s k .implications) (take (i + 1) (stepsBy s k))
+  pub follow : Follow left-after right-after (k .flats + (i + 1)) keptLeft keptRight (r .kept)
 
 -- Before the worlds: the tables hold the flat clauses.
 pub record WorldsReady (s : List ℕ) (k : Contents) (left right : List ℕ) : Type 0 where

@@ -12,77 +12,82 @@ use super::rows;
 use atoms::AtomSet;
 ghost use mathlib.Core.Bool.{false};
 ghost use mathlib.Core.Path.{_≡_};
-ghost use Prim.Native.Nat.{min};
-ghost use Rattle.atoms.specs.Sets.{limit};
-ghost use Rattle.atoms.specs.Words.{num};
-ghost use Rattle.ipl.specs.Question.{ask};
-ghost use Rattle.ipl.specs.Search.{isNone};
-ghost use Rattle.sat.specs.Table.{clauses};
 ghost use Rattle.certificate.specs.Certificate.{valid};
 ghost use Rattle.certificate.specs.Judge.{wrongPlace};
 ghost use Rattle.certificate.specs.Checked.{Ranged, problemBy, stepsBy, StepsReady, StepReady, StepJudged, placeOf};
 
-// Whether the first `count` clauses and the atoms given prove the atom asked.
-fn proves<'a>(
-    left: &'a [u64],
-    right: &'a [u64],
-    count: usize,
-    n: u8,
-    given: AtomSet,
-    asked: u8,
-) -> bool
-    ensures { λ r. ⌜ r ≡ isNone (ask (min n limit) (clauses (now (left .entry)) (now (right .entry)) count) (num given) asked) ⌝ }
-{
-    match sat::ask(left, right, count, n, given, asked) {
-        sat::Answer::Proved => true,
-        sat::Answer::Countered(_) => false,
-    }
-}
+// Rows learned that are kept from step to step.
+const KEPT: usize = 1024;
 
-// Judges step i by the clauses before it, and puts its clause after them.
-fn judge_step(bytes: &[u8], k: Contents, i: usize, left: &mut [u64], right: &mut [u64]) -> bool
-    requires { ⌜ StepReady (now bytes) k i (now left) (now right) ⌝ }
-    ensures { λ r. ⌜ StepJudged (now (bytes .entry)) k i (now (left .entry)) (now (right .entry)) (now (left .exit)) (now (right .exit)) r ⌝ }
+// Judges step i by the clauses before it, and puts its clause after them. The rows kept follow from them, before and after.
+fn judge_step(
+    bytes: &[u8],
+    k: Contents,
+    i: usize,
+    left: &mut [u64],
+    right: &mut [u64],
+    kept_left: &mut [u64],
+    kept_right: &mut [u64],
+    kept: usize,
+) -> sat::Proof
+    requires { ⌜ StepReady (now bytes) k i (now left) (now right) (now «kept_left») (now «kept_right») kept ⌝ }
+    ensures { λ r. ⌜ StepJudged (now (bytes .entry)) k i (now (left .entry)) (now (right .entry)) (now (left .exit)) (now (right .exit)) (now («kept_left» .exit)) (now («kept_right» .exit)) r ⌝ }
 {
     let step = rows::step_from(bytes, k.claim_at() + STEP_BYTES * i);
     let place = k.implications_at() + IMPLICATION_BYTES * step.number as usize;
     let x = rows::implication_from(bytes, place);
     let last = k.flats as usize + i;
-    let proved = proves(
+    let proof = sat::proves(
         left,
         right,
         last,
         byte(bytes, ATOM_COUNT_AT),
         step.assumed,
         x.b,
+        kept_left,
+        kept_right,
+        kept,
     );
     atoms::set_row(left, last, step.assumed.without(AtomSet::single(x.a)));
     atoms::set_row(right, last, AtomSet::single(x.c));
-    proved
+    proof
 }
 
 // Each step in order, then the goal. `wrong_step` loads the flat clauses.
-fn judge_steps(bytes: &[u8], k: Contents, left: &mut [u64], right: &mut [u64]) -> Wrong
+fn judge_steps(
+    bytes: &[u8],
+    k: Contents,
+    left: &mut [u64],
+    right: &mut [u64],
+    kept_left: &mut [u64],
+    kept_right: &mut [u64],
+) -> Wrong
     requires { ⌜ StepsReady (now bytes) k (now left) (now right) ⌝ }
     ensures { λ r. ⌜ placeOf r ≡ wrongPlace (problemBy (now (bytes .entry)) k) (valid (stepsBy (now (bytes .entry)) k)) ⌝ }
 {
     let count = k.rows as usize;
+    let mut kept = 0;
     let mut i = 0;
     while i < count {
-        if !judge_step(bytes, k, i, left, right) {
+        let step = judge_step(bytes, k, i, left, right, kept_left, kept_right, kept);
+        if !step.proved {
             return Wrong::At(i);
         }
+        kept = step.kept;
         i += 1;
     }
-    let goal = byte(bytes, k.goal_at());
-    if proves(
+    let proof = sat::proves(
         left,
         right,
         k.flats as usize + count,
         byte(bytes, ATOM_COUNT_AT),
         AtomSet::EMPTY,
-        goal,
-    ) {
+        byte(bytes, k.goal_at()),
+        kept_left,
+        kept_right,
+        kept,
+    );
+    if proof.proved {
         Wrong::Nothing
     } else {
         Wrong::At(count)
@@ -98,5 +103,14 @@ pub fn wrong_step(bytes: &[u8], k: Contents) -> Wrong
     let mut right = [0u64; ipl::KNOWN * atoms::WORDS];
     load_column(bytes, FLATS_AT, k.flats as usize, &mut left);
     load_column(bytes, FLATS_AT + SET_BYTES, k.flats as usize, &mut right);
-    judge_steps(bytes, k, &mut left, &mut right)
+    let mut kept_left = [0u64; KEPT * atoms::WORDS];
+    let mut kept_right = [0u64; KEPT * atoms::WORDS];
+    judge_steps(
+        bytes,
+        k,
+        &mut left,
+        &mut right,
+        &mut kept_left,
+        &mut kept_right,
+    )
 }

@@ -1,7 +1,6 @@
 -- Laws of the dropping of atoms, one after the other.
 use mathlib.Core.Bool.{Bool, true, false}
 use mathlib.Core.List.{List}
-use mathlib.Core.Option.{none, some}
 use mathlib.Core.Path.{_≡_, sym, ap, _∙_}
 use Prim.Native.Nat.{ℕ, suc, _+_, _-_, _≤_, _<_, min}
 use native.Mathlib.Numerals.{add-one}
@@ -27,13 +26,13 @@ module _ (n : ℕ) (R : List Flat) (b k A : ℕ) where
     rest-is : rest ≡ remove A k
     rest-is = er ∙ ap (minus A) (eo ∙ single-bits k (omega arith))
 
-    pub drop-taken : none ≡ ask (min n limit) R rest b → rest ≡ dropOne (proves n R b) k A
-    unfolding dropOne isNone
-    drop-taken e = rw (h, ← rest-is, ← ask-min n R rest b nl, ← e)
+    pub drop-taken : isNone (ask (min n limit) R rest b) ≡ true → rest ≡ dropOne (proves n R b) k A
+    unfolding dropOne
+    drop-taken e = rw (h, ← rest-is, ← ask-min n R rest b nl, e)
 
-    pub drop-kept : (m : ℕ) → some m ≡ ask (min n limit) R rest b → A ≡ dropOne (proves n R b) k A
-    unfolding dropOne isNone
-    drop-kept m e = rw (h, ← rest-is, ← ask-min n R rest b nl, ← e)
+    pub drop-kept : isNone (ask (min n limit) R rest b) ≡ false → A ≡ dropOne (proves n R b) k A
+    unfolding dropOne
+    drop-kept e = rw (h, ← rest-is, ← ask-min n R rest b nl, e)
 
 -- The rest of the dropping from k on.
 pub drop-start : (p : ℕ → Bool) (n A : ℕ) → dropFrom p n 0 A ≡ dropFrom p (n - 0) 0 A

@@ -5,8 +5,8 @@ use Prim.Native.Nat.{ℕ, _+_, _<_}
 use native.Mathlib.Omega.{arith}
 use lib.ListN.{length}
 use Rattle.atoms.specs.Sets.{minus}
-use Rattle.atoms.specs.Words.{rowOf}
-use Rattle.atoms.proofs.Machine.{same-rows, single-bits}
+use Rattle.atoms.specs.Words.{rowOf, RowsSet}
+use Rattle.atoms.proofs.Machine.{same-rows, single-bits, rows-first}
 use Rattle.ipl.specs.Lists.{tabulate}
 use Rattle.ipl.specs.Clause.{learned}
 use Rattle.ipl.specs.Search.{clauseOf, known}
@@ -14,7 +14,7 @@ use Rattle.ipl.proofs.Lists.{tabulate-at, tabulate-same, map-tabulate, tabulate
 use Rattle.ipl.proofs.Range.{ImplicationBelow, implication-below, single-one}
 use Rattle.sat.specs.Table.{clauseAt, clauses}
 use Rattle.prover.specs.State.{byteAt, implicationRow, stepRow, flatsOf, implicationsOf, stepsOf}
-use Rattle.prover.specs.Working.{Usable, Copied, learnedRow, StepsFit, StepsWritten, KnownWritten}
+use Rattle.prover.specs.Working.{Usable, learnedRow, StepsFit, StepsWritten, KnownWritten}
 use Rattle.prover.specs.declared.Flats.{Flats}
 use Rattle.prover.specs.declared.Implications.{Implications}
 use Rattle.prover.specs.declared.Steps.{Steps}
@@ -40,12 +40,12 @@ fit-same left right left1 right1 flats steps x l r f = record {
 }
 
 module _ (left right left1 right1 left2 right2 : List ℕ) (flats : Flats) (steps : Steps) (x : Implications) (f : StepsFit left right (flats .count) steps x)
-    (l : Copied (flats .left) left (flats .count) left1) (r : Copied (flats .right) right (flats .count) right1)
+    (l : RowsSet left 0 (flats .left) (flats .count) left1) (r : RowsSet right 0 (flats .right) (flats .count) right1)
     (w : StepsWritten left1 right1 (flats .count) steps x (steps .count) left2 right2) (n : ℕ) (u : Usable n x) where
   flat-rows : clauses left2 right2 (flats .count) ≡ flatsOf flats
   unfolding clauses
   flat-rows = tabulate-same (clauseAt left2 right2) (clauseAt (flats .left) (flats .right)) (flats .count)
-      (λ i h. w .flats-stay i h ∙ ap₂ (λ (x y : ℕ). record { left = x; right = y }) (l .rows i h) (r .rows i h))
+      (λ i h. w .flats-stay i h ∙ ap₂ (λ (x y : ℕ). record { left = x; right = y }) (rows-first left (flats .left) left1 (flats .count) l i h (omega (arith, f .left-room))) (rows-first right (flats .right) right1 (flats .count) r i h (omega (arith, f .right-room))))
 
   step-rows : tabulate (λ j. clauseAt left2 right2 (flats .count + j)) (steps .count) ≡ map (clauseOf (implicationsOf x)) (stepsOf steps)
   step-rows =

@@ -2,7 +2,7 @@
 use mathlib.Core.List.{List, [], _∷_, _++_}
 use mathlib.Core.Path.{_≡_, ap, ap₂, _∙_, subst}
 use native.Mathlib.Decide.{decLt}
-use Rattle.prover.specs.Working.{Copied, learnedRow, StepsFit, StepsWritten}
+use Rattle.prover.specs.Working.{learnedRow, StepsFit, StepsWritten}
 use Rattle.prover.specs.declared.Steps.{Steps}
 use Prim.Native.Nat.{ℕ, _+_, _≤_, _<_}
 use native.Mathlib.Omega.{arith}
@@ -42,16 +42,6 @@ implications-more t a b c la lb lc =
     row : {a b c a2 b2 c2 : ℕ} → a ≡ a2 → b ≡ b2 → c ≡ c2 → _≡_ {A = Implication} (record { a = a; b = b; c = c }) (record { a = a2; b = b2; c = c2 })
     row p q r = λ i. record { a = p i; b = q i; c = r i }
 
--- A row copied after those before it.
-pub copied-more : (from before mid after : List ℕ) (i : ℕ) → Copied from before i mid → RowSet mid i (rowOf from i) after → i < rowCount before → Copied from before (i + 1) after
-copied-more from before mid after i h r k = record {
-  size = r .size ∙ h .size;
-  rows = λ j l. elim (decLt j i) [
-    | yes m ↦ r .others j (λ e. omega arith) ∙ h .rows j m
-    | no m ↦ let e : i ≡ j = omega arith in subst (λ (j : ℕ). rowOf after j ≡ rowOf from j) e (r .written (omega (arith, same-rows mid before (h .size))))
-  ];
-}
-
 -- A learned clause written after those before it.
 pub steps-more : (left right left1 right1 left2 right2 : List ℕ) (flats : ℕ) (steps : Steps) (x : Implications) (k : ℕ) → StepsFit left right flats steps x → k < steps .count
     → StepsWritten left right flats steps x k left1 right1
@@ -84,9 +74,6 @@ pub row-set-as : {before after : List ℕ} {i x y : ℕ} → RowSet before i x a
 row-set-as {before} {after} {i} r e = subst (λ (z : ℕ). RowSet before i z after) e r
 
 -- At the end of a loop.
-pub copied-end : (from before after : List ℕ) (i n : ℕ) → i ≤ n → n ≤ i → Copied from before i after → Copied from before n after
-copied-end from before after i n h k c = subst (λ (j : ℕ). Copied from before j after) (omega arith) c
-
 pub steps-end : (left right left2 right2 : List ℕ) (flats : ℕ) (steps : Steps) (x : Implications) (k n : ℕ) → k ≤ n → n ≤ k
     → StepsWritten left right flats steps x k left2 right2 → StepsWritten left right flats steps x n left2 right2
 steps-end left right left2 right2 flats steps x k n h l c = subst (λ (j : ℕ). StepsWritten left right flats steps x j left2 right2) (omega arith) c

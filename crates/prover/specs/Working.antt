@@ -60,11 +60,6 @@ pub record NextPair (sets : List ℕ) (count : ℕ) (x : Implications) (p q : Pa
 abbrev pub proves : ℕ → List Flat → ℕ → ℕ → Bool
 proves n R b B = isNone (ask n R B b)
 
--- The first `count` rows are those of `from`.
-pub record Copied (from before : List ℕ) (count : ℕ) (after : List ℕ) : Type 0 where
-  pub size : length after ≡ length before
-  pub rows : (i : ℕ) → i < count → rowOf after i ≡ rowOf from i
-
 -- The row of a learned clause, as the code writes it for implication i and the set assumed.
 abbrev pub learnedRow : Implications → ℕ → ℕ → Flat
 learnedRow x i assumed = record { left = minus assumed (singleOrEmpty (byteAt (x .a) i)); right = singleOrEmpty (byteAt (x .c) i) }

@@ -3,14 +3,23 @@ use super::Flats;
 use super::Implications;
 use super::Steps;
 use atoms::AtomSet;
-use sat::Answer;
 ghost use mathlib.Core.Path.{_≡_};
 ghost use Prim.Native.Nat.{ℕ, _≤_, _<_};
 ghost use Rattle.atoms.specs.Sets.{limit, minus};
-ghost use Rattle.atoms.specs.Words.{num, rowCount, singleOrEmpty, RowSet};
+ghost use Rattle.atoms.specs.Words.{num, singleOrEmpty, RowSet};
 ghost use Rattle.ipl.specs.Search.{dropOne, dropFrom};
+ghost use Rattle.sat.specs.Learning.{Follow};
 ghost use Rattle.sat.specs.Table.{clauses};
-ghost use Rattle.prover.specs.Working.{Usable, proves, Copied, StepsFit, StepsWritten, KnownWritten};
+ghost use Rattle.prover.specs.Working.{Usable, proves, StepsFit, StepsWritten, KnownWritten};
+
+// Rows learned that are kept while atoms are dropped.
+const KEPT: usize = 64;
+
+// What is left of a set, and how many rows are kept.
+struct Dropped {
+    rest: AtomSet,
+    kept: usize,
+}
 
 // A without the atom k, where the rest still proves `asked`.
 fn drop_atom<'a>(
@@ -21,18 +30,71 @@ fn drop_atom<'a>(
     a: AtomSet,
     asked: u8,
     k: u8,
-) -> AtomSet
-    requires { ⌜ (k < n) × (n ≤ limit) ⌝ }
-    ensures { λ r. ⌜ num r ≡ dropOne (proves n (clauses (now (left .entry)) (now (right .entry)) rows) asked) k (num a) ⌝ }
+    kept_left: &mut [u64],
+    kept_right: &mut [u64],
+    kept: usize,
+) -> Dropped
+    requires { ⌜ (k < n) × (n ≤ limit) × Follow (now left) (now right) rows (now «kept_left») (now «kept_right») kept ⌝ }
+    ensures { λ r. ⌜ (num (r .rest) ≡ dropOne (proves n (clauses (now (left .entry)) (now (right .entry)) rows) asked) k (num a))
+        × Follow (now (left .entry)) (now (right .entry)) rows (now («kept_left» .exit)) (now («kept_right» .exit)) (r .kept) ⌝ }
 {
     if !a.has(k) {
-        return a;
+        return Dropped { rest: a, kept };
     }
     let rest = a.without(AtomSet::single(k));
-    match sat::ask(left, right, rows, n, rest, asked) {
-        Answer::Proved => rest,
-        Answer::Countered(_) => a,
+    let p = sat::proves(
+        left,
+        right,
+        rows,
+        n,
+        rest,
+        asked,
+        kept_left,
+        kept_right,
+        kept,
+    );
+    let kept = p.kept;
+    if p.proved {
+        return Dropped { rest, kept };
     }
+    Dropped { rest: a, kept }
+}
+
+// `given` without those atoms, in rising number, that the proof of `asked` does not need; rows learned are kept in the tables lent.
+fn drop_keeping<'a>(
+    left: &'a [u64],
+    right: &'a [u64],
+    rows: usize,
+    n: u8,
+    given: AtomSet,
+    asked: u8,
+    kept_left: &mut [u64],
+    kept_right: &mut [u64],
+) -> AtomSet
+    requires { ⌜ n ≤ limit ⌝ }
+    ensures { λ r. ⌜ num r ≡ dropFrom (proves n (clauses (now (left .entry)) (now (right .entry)) rows) asked) n 0 (num given) ⌝ }
+{
+    let mut a = given;
+    let mut kept = 0;
+    let mut k: u8 = 0;
+    while k < n {
+        let d = drop_atom(
+            left,
+            right,
+            rows,
+            n,
+            a,
+            asked,
+            k,
+            kept_left,
+            kept_right,
+            kept,
+        );
+        a = d.rest;
+        kept = d.kept;
+        k += 1;
+    }
+    a
 }
 
 // `given` without those atoms, in rising number, that the proof of `asked` does not need.
@@ -47,25 +109,18 @@ pub fn drop_atoms<'a>(
     requires { ⌜ n ≤ limit ⌝ }
     ensures { λ r. ⌜ num r ≡ dropFrom (proves n (clauses (now (left .entry)) (now (right .entry)) rows) asked) n 0 (num given) ⌝ }
 {
-    let mut a = given;
-    let mut k: u8 = 0;
-    while k < n {
-        a = drop_atom(left, right, rows, n, a, asked, k);
-        k += 1;
-    }
-    a
-}
-
-// Copies the first `count` rows.
-fn copy_rows(from: &[u64], to: &mut [u64], count: usize)
-    requires { ⌜ count ≤ rowCount (now to) ⌝ }
-    ensures { λ _. ⌜ Copied (now (from .entry)) (now (to .entry)) count (now (to .exit)) ⌝ }
-{
-    let mut i = 0;
-    while i < count {
-        atoms::set_row(to, i, atoms::row(from, i));
-        i += 1;
-    }
+    let mut kept_left = [0u64; KEPT * atoms::WORDS];
+    let mut kept_right = [0u64; KEPT * atoms::WORDS];
+    drop_keeping(
+        left,
+        right,
+        rows,
+        n,
+        given,
+        asked,
+        &mut kept_left,
+        &mut kept_right,
+    )
 }
 
 // Writes the clause of a learned step to a row: the set assumed without a on the left, c on the right.
@@ -102,7 +157,7 @@ pub fn write_known(left: &mut [u64], right: &mut [u64], flats: Flats, steps: Ste
     ensures { λ _. ⌜ ((n : ℕ) → Usable n x → KnownWritten (now (left .entry)) (now (right .entry)) flats steps x (now (left .exit)) (now (right .exit))) ⌝ }
 {
     let count = flats.count;
-    copy_rows(&flats.left, left, count);
-    copy_rows(&flats.right, right, count);
+    atoms::copy_rows(&flats.left, left, 0, count);
+    atoms::copy_rows(&flats.right, right, 0, count);
     write_steps(left, right, count, steps, x);
 }

@@ -7,14 +7,12 @@ use native.Mathlib.Nat.{le-refl, le-trans}
 use native.Mathlib.Omega.{arith}
 use lib.Dec.{T, eqb}
 use borrow.Author.Tests.{eq-eqb}
-use Rattle.atoms.specs.Sets.{limit, union, minus, meets}
-use Rattle.atoms.specs.Words.{num}
+use Rattle.atoms.specs.Sets.{limit, meets}
 use Rattle.atoms.proofs.Bits.{bits-le}
 use Rattle.atoms.proofs.Truth.{false-T, T-and, true-T}
 use Rattle.sat.specs.Table.{Within}
-use Rattle.sat.specs.Knowledge.{PartialIs, Extends, Fits, Proper, Grown, Part}
-use Rattle.sat.specs.declared.Partial.{Partial}
-use Rattle.sat.proofs.Table.{union-bits, minus-bits, meets-Meets}
+use Rattle.sat.specs.Knowledge.{Extends, Proper, Grown}
+use Rattle.sat.proofs.Table.{meets-Meets}
 
 module _ (P : ℕ → Type 0) where
   pub grown-refl : (y x : ℕ) → Proper y x → Grown P y x y x
@@ -50,32 +48,6 @@ room-falls y x y2 x2 f p q e = elim (decLt (y + x) (y2 + x2)) [
 
 pub room-kept : (y x y2 x2 : ℕ) → Within y y2 → Within x x2 → 2 ^ suc limit - (y2 + x2) ≤ 2 ^ suc limit - (y + x)
 room-kept y x y2 x2 p q = omega (arith, bits-le y y2 p, bits-le x x2 q)
-
--- ---- both of two, and part of one
-
-pub both-fit : (p q r : Partial) → PartialIs r (union (num (p .has)) (num (q .has))) (union (num (p .lacks)) (num (q .lacks))) → (m : ℕ) → Fits p m → Fits q m → Fits r m
-both-fit p q r e m f g = record {
-  includes = λ i. omega (arith, union-bits (num (p .has)) (num (q .has)) (num (r .has)) (e .has-is) i, f .includes i, g .includes i);
-  avoids = λ i. omega (arith, union-bits (num (p .lacks)) (num (q .lacks)) (num (r .lacks)) (e .lacks-is) i, f .avoids i, g .avoids i);
-}
-
-pub forget-part : (p r : Partial) (x : ℕ) → PartialIs r (minus (num (p .has)) x) (minus (num (p .lacks)) x) → Part r p
-forget-part p r x e = record {
-  has-part = λ i. omega (arith, minus-bits (num (p .has)) x (num (r .has)) (e .has-is) i);
-  lacks-part = λ i. omega (arith, minus-bits (num (p .lacks)) x (num (r .lacks)) (e .lacks-is) i);
-}
-
-pub part-refl : (p : Partial) → Part p p
-part-refl p = record { has-part = λ i. le-refl _; lacks-part = λ i. le-refl _ }
-
-pub part-trans : (p q r : Partial) → Part p q → Part q r → Part p r
-part-trans p q r a b = record { has-part = λ i. le-trans (a .has-part i) (b .has-part i); lacks-part = λ i. le-trans (a .lacks-part i) (b .lacks-part i) }
-
-pub part-fits : (r d : Partial) → Part r d → (m : ℕ) → Fits d m → Fits r m
-part-fits r d a m f = record {
-  includes = λ i. le-trans (a .has-part i) (f .includes i);
-  avoids = λ i. omega (arith, a .lacks-part i, f .avoids i);
-}
 
 -- What is known both ways fits nothing.
 pub clash : (y x m : ℕ) → T (meets y x) → Extends y x m → ⊥

@@ -4,3 +4,5 @@ pub mod Clause
 pub mod Knowledge
 pub mod Descent
 pub mod Question
+pub mod Resolution
+pub mod Rows

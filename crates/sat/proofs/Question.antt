@@ -1,28 +1,32 @@
 -- The search's answers are those of the definition: the models of what is given are the numbers that counter the question.
-use mathlib.Core.Bool.{not}
+use mathlib.Core.Bool.{Bool, true, false, not, true≢false, false≢true}
 use mathlib.Core.List.{List}
-use mathlib.Core.Option.{none, some}
-use mathlib.Core.Path.{_≡_, sym, ap, _∙_}
+use mathlib.Core.Option.{Option, none, some}
+use mathlib.Core.Path.{_≡_, refl, sym, ap, subst}
 use Prim.Native.Nat.{ℕ, _^_, _≤_, _<_, min}
 use native.Mathlib.Decide.{decLt, ℕ-discrete}
 use native.Mathlib.Nat.{lt-of-lt-of-le}
 use native.Mathlib.Omega.{arith}
 use lib.Dec.{T, T-not, not-T}
 use lib.Pow.{pow-mono}
-use Rattle.atoms.specs.Sets.{bitAt, has, limit, union, minus}
+use Rattle.atoms.specs.Sets.{bitAt, has, limit, union, minus, meets}
 use Rattle.atoms.specs.Words.{num, everyAtom, singleOrEmpty, below}
-use Rattle.atoms.proofs.Truth.{false-T}
-use Rattle.atoms.proofs.Bits.{bit-le, bit-zero, bit-one, bit-other, bit-past, lt-of-bits}
+use Rattle.atoms.proofs.Truth.{true-T, false-T}
+use Rattle.atoms.proofs.Bits.{bit-le, bit-one, bit-past, lt-of-bits}
 use Rattle.atoms.proofs.Members.{has-bit, bit-has, has-past, within-bits, bits-within}
-use Rattle.atoms.proofs.Machine.{every-atom, below-in, below-out, single-bits, single-none}
+use Rattle.atoms.proofs.Machine.{every-atom, below-in, below-out, single-bits}
 use Rattle.ipl.specs.Question.{ask, Counters}
-use Rattle.ipl.proofs.Question.{ask-by}
+use Rattle.ipl.specs.Search.{isNone}
+use Rattle.ipl.proofs.Question.{Answers, ask-right, ask-by}
 use Rattle.sat.specs.Table.{clauses, AllHold, Apart}
-use Rattle.sat.specs.Knowledge.{PartialIs, Fair, Blocks, Part}
-use Rattle.sat.specs.Descent.{Node, Model, Smallest}
+use Rattle.sat.specs.Answer.{answerOf}
+use Rattle.sat.specs.Knowledge.{Fair}
+use Rattle.sat.specs.Descent.{Base, Model, NoModel, Settles, Decides}
+use Rattle.sat.specs.declared.Answer.{Answer}
+use Rattle.sat.specs.declared.Answer.the-variants.{Proved, Countered}
 use Rattle.sat.specs.declared.Partial.{Partial}
-use Rattle.sat.proofs.Table.{union-bits, minus-bits, all-hold-clauses}
-use Rattle.sat.proofs.Knowledge.{part-refl}
+use Rattle.sat.proofs.Table.{union-bits, minus-bits, single-other, apart-of, all-hold-clauses}
+use Rattle.sat.proofs.Knowledge.{clash}
 
 -- The question's n, given atoms and asked atom, with the set of what must be lacked.
 module _ (left right : List ℕ) (count n given asked : ℕ) (past lacked : ℕ) (ep : past ≡ minus everyAtom (below n)) (el : lacked ≡ union past (singleOrEmpty asked)) where
@@ -38,18 +42,12 @@ module _ (left right : List ℕ) (count n given asked : ℕ) (past lacked : ℕ)
     | no k ↦ omega (arith, bit-past (min n limit) m i h (omega arith), bit-le lacked i)
     | yes k ↦ elim (ℕ-discrete asked i) [
       | yes d ↦ omega (arith, bit-le lacked i, bit-le m i, ap (bitAt m) d, absent)
-      | no d ↦ omega (arith, bit-le m i, union-bits past (singleOrEmpty asked) lacked el i, minus-bits everyAtom (below n) past ep i, below-in n i k, bit-le everyAtom i, other i d)
+      | no d ↦ omega (arith, bit-le m i, union-bits past (singleOrEmpty asked) lacked el i, minus-bits everyAtom (below n) past ep i, below-in n i k, bit-le everyAtom i, single-other asked i d)
     ]
   ]
     where
       absent : bitAt m asked < 1
       absent = elim (decLt (bitAt m asked) 1) [ yes z ↦ z | no z ↦ absurd (T-not (has m asked) t (bit-has m asked (omega (arith, bit-le m asked)))) ]
-
-      other : (i : ℕ) → (asked ≡ i → ⊥) → bitAt (singleOrEmpty asked) i ≡ 0
-      other i d = elim (decLt asked limit) [
-        | yes l ↦ ap (λ (z : ℕ). bitAt z i) (single-bits asked l) ∙ bit-other asked i d
-        | no l ↦ ap (λ (z : ℕ). bitAt z i) (single-none asked (omega arith)) ∙ bit-zero i
-      ]
 
   counters-model : (m : ℕ) → Counters (min n limit) (clauses left right count) given asked m → Model (AllHold left right count) given lacked m
   counters-model m c = record {
@@ -72,27 +70,49 @@ module _ (left right : List ℕ) (count n given asked : ℕ) (past lacked : ℕ)
     satisfied = all-hold-clauses left right m count .0 (w .holds);
   }
 
-  pub none-asked : ((m : ℕ) → Model (AllHold left right count) given lacked m → ⊥) → none ≡ ask (min n limit) (clauses left right count) given asked
-  none-asked f = sym (ask-by (min n limit) (clauses left right count) given asked none (λ m c. f m (counters-model m c)))
+-- ---- the search's answers at its start
 
-  pub least-asked : (s : ℕ) → Smallest (AllHold left right count) given lacked s → some s ≡ ask (min n limit) (clauses left right count) given asked
-  least-asked s w = sym (ask-by (min n limit) (clauses left right count) given asked (some s) (model-counters s (w .member), λ k c. w .least k (counters-model k c)))
+module _ (left right : List ℕ) (count n given asked : ℕ) (p : Partial) (start : Base n given asked p) where
+  counters-start : (m : ℕ) → Counters (min n limit) (clauses left right count) given asked m → Model (AllHold left right count) (num (p .has)) (num (p .lacks)) m
+  counters-start m c = subst (λ (y : ℕ). Model (AllHold left right count) y (num (p .lacks)) m) (sym (start .has-is))
+      (counters-model left right count n given asked (minus everyAtom (below n)) (num (p .lacks)) refl (start .lacks-is) m c)
 
--- ---- the start: nothing is decided
+  start-counters : (m : ℕ) → Model (AllHold left right count) (num (p .has)) (num (p .lacks)) m → Counters (min n limit) (clauses left right count) given asked m
+  start-counters m w = model-counters left right count n given asked (minus everyAtom (below n)) (num (p .lacks)) refl (start .lacks-is) m
+      (subst (λ (y : ℕ). Model (AllHold left right count) y (num (p .lacks)) m) (start .has-is) w)
 
-pub start-node : (P : ℕ → Type 0) (b d : Partial) → Fair b → PartialIs d 0 0 → Node P b d b
-start-node P b d f e = record {
-  fair = f;
-  given = part-refl b;
-  decided = record {
-    has-part = λ i. omega (arith, ap (λ (z : ℕ). bitAt z i) (e .has-is), bit-zero i);
-    lacks-part = λ i. omega (arith, ap (λ (z : ℕ). bitAt z i) (e .lacks-is), bit-zero i);
-  };
-  follows = λ m h fb fd. fb;
-}
+  pub settled : (a : Answer) → Settles (AllHold left right count) p a → answerOf a ≡ ask (min n limit) (clauses left right count) given asked
+  settled Proved f = sym (ask-by (min n limit) (clauses left right count) given asked none (λ m c. f m (counters-start m c)))
+  settled (Countered s) w =
+      sym (ask-by (min n limit) (clauses left right count) given asked (some (num s)) (start-counters (num s) (w .member), λ k c. w .least k (counters-start k c)))
 
-pub start-blocked : (P : ℕ → Type 0) (b d r : Partial) → PartialIs d 0 0 → Blocks P b r → Part r d → (m : ℕ) → Model P (num (b .has)) (num (b .lacks)) m → ⊥
-start-blocked P b d r e f part m w = f m (w .below) (w .holds) (w .extends) (record {
-  includes = λ i. omega (arith, part .has-part i, ap (λ (z : ℕ). bitAt z i) (e .has-is), bit-zero i);
-  avoids = λ i. omega (arith, part .lacks-part i, ap (λ (z : ℕ). bitAt z i) (e .lacks-is), bit-zero i, bit-le m i);
-})
+  pub decided : (r : Bool) → Decides (AllHold left right count) p r → r ≡ isNone (ask (min n limit) (clauses left right count) given asked)
+  unfolding isNone
+  decided r d = go (ask (min n limit) (clauses left right count) given asked) (ask-right (min n limit) (clauses left right count) given asked) r d
+    where
+      go : (o : Option ℕ) → Answers (min n limit) (clauses left right count) given asked o → (r : Bool) → Decides (AllHold left right count) p r → r ≡ isNone o
+      go none h true d = refl
+      go none h false d = absurd (h (d .no-some refl .0) (start-counters (d .no-some refl .0) (d .no-some refl .1)))
+      go (some m) h true d = absurd (d .yes-none refl m (counters-start m (h .0)))
+      go (some m) h false d = refl
+
+module _ (n given asked : ℕ) (p : Partial) (start : Base n given asked p) where
+  -- What must be had and lacked at once has no model.
+  pub contrary : (P : ℕ → Type 0) → meets given (num (p .lacks)) ≡ true → NoModel P p
+  contrary P e m w = clash (num (p .has)) (num (p .lacks)) m (subst (λ (y : ℕ). T (meets y (num (p .lacks)))) (sym (start .has-is)) (true-T e)) (w .extends)
+
+  pub start-fair : meets given (num (p .lacks)) ≡ false → given < 2 ^ limit → num (p .lacks) < 2 ^ limit → Fair p
+  start-fair e l k = record {
+    apart = rw (start .has-is) (apart-of given (num (p .lacks)) e);
+    has-below = rw (start .has-is) l;
+    lacks-below = k;
+  }
+
+-- ---- yes or no
+
+module _ (P : ℕ → Type 0) (p : Partial) where
+  pub decides-yes : NoModel P p → Decides P p true
+  decides-yes f = record { yes-none = λ e. f; no-some = λ e. absurd (true≢false e) }
+
+  pub decides-no : (m : ℕ) → Model P (num (p .has)) (num (p .lacks)) m → Decides P p false
+  decides-no m w = record { yes-none = λ e. absurd (false≢true e); no-some = λ e. (m, w) }

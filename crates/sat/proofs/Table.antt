@@ -4,16 +4,17 @@ use mathlib.Core.List.{List, [], _∷_, _++_}
 use mathlib.Core.Logic.{_↔_, inl, inr}
 use mathlib.Core.Path.{_≡_, refl, ap, _∙_, subst, ap₂}
 use Prim.Native.Nat.{ℕ, zero, suc, _+_, _-_, _<_, min, max}
-use native.Mathlib.Decide.{decLe}
+use native.Mathlib.Decide.{decLe, decLt}
 use native.Mathlib.Nat.{le-refl, not-suc-le-zero}
 use native.Mathlib.Numerals.{add-one}
 use native.Mathlib.Omega.{arith}
 use lib.Dec.{T, T-not, not-T, eqb, eqb→eq}
 use borrow.Author.Tests.{eq-eqb}
-use Rattle.atoms.specs.Sets.{bitAt, union, common, minus, within, meets}
-use Rattle.atoms.specs.Words.{rowOf, rowCount, RowSet}
+use Rattle.atoms.specs.Sets.{bitAt, limit, union, common, minus, within, meets}
+use Rattle.atoms.specs.Words.{singleOrEmpty, rowOf, rowCount, RowSet}
 use Rattle.atoms.proofs.Truth.{T-left, T-right, T-and, T-or, T-false, T-iff, T-dne, true-T, false-T}
-use Rattle.atoms.proofs.Bits.{bit-le, bit-zero, bit-and, bit-or, bit-minus, bit-ext}
+use Rattle.atoms.proofs.Bits.{bit-le, bit-zero, bit-other, bit-and, bit-or, bit-minus, bit-ext}
+use Rattle.atoms.proofs.Machine.{single-bits, single-none}
 use Rattle.atoms.proofs.Members.{has-bit, bit-has, within-bits, bits-within, has-meets, meets-has}
 use Rattle.ipl.specs.Clause.{satisfies}
 use Rattle.ipl.specs.Lists.{All}
@@ -27,6 +28,13 @@ union-bits a b r e i = ap (λ (z : ℕ). bitAt z i) e ∙ bit-or a b i
 
 pub minus-bits : (a b r : ℕ) → r ≡ minus a b → (i : ℕ) → bitAt r i ≡ bitAt a i - bitAt b i
 minus-bits a b r e i = ap (λ (z : ℕ). bitAt z i) e ∙ bit-minus a b i
+
+-- The set of an atom has no other.
+pub single-other : (a i : ℕ) → (a ≡ i → ⊥) → bitAt (singleOrEmpty a) i ≡ 0
+single-other a i d = elim (decLt a limit) [
+  | yes l ↦ ap (λ (z : ℕ). bitAt z i) (single-bits a l) ∙ bit-other a i d
+  | no l ↦ ap (λ (z : ℕ). bitAt z i) (single-none a (omega arith)) ∙ bit-zero i
+]
 
 -- ---- the tests
 

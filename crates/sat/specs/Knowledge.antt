@@ -64,12 +64,3 @@ abbrev pub Propagates : (ℕ → Type 0) → Partial → Propagated → Type 0
 Propagates P p propagated.Conflict = Forces P p Conflict
 Propagates P p (propagated.Model q) = Forces P p (Known q) × P (num (q .has))
 Propagates P p (propagated.Open q) = Forces P p (Known q)
-
--- No set of atoms is a model that fits both b and r.
-abbrev pub Blocks : (ℕ → Type 0) → Partial → Partial → Type 0
-Blocks P b r = (m : ℕ) → m < 2 ^ limit → P m → Fits b m → Fits r m → ⊥
-
--- r knows no more than d.
-pub record Part (r d : Partial) : Type 0 where
-  pub has-part : Within (num (r .has)) (num (d .has))
-  pub lacks-part : Within (num (r .lacks)) (num (d .lacks))

@@ -6,15 +6,6 @@ ghost use Rattle.atoms.specs.Sets.{union, minus};
 ghost use Rattle.atoms.specs.Words.{num};
 ghost use Rattle.sat.specs.Knowledge.{PartialIs, samePartial};
 
-pub fn nothing() -> Partial
-    ensures { λ r. ⌜ PartialIs r 0 0 ⌝ }
-{
-    Partial {
-        has: AtomSet::EMPTY,
-        lacks: AtomSet::EMPTY,
-    }
-}
-
 pub fn having(p: Partial, x: AtomSet) -> Partial
     ensures { λ r. ⌜ PartialIs r (union (num (p .has)) (num x)) (num (p .lacks)) ⌝ }
 {
@@ -54,12 +45,6 @@ pub fn atoms(p: Partial) -> AtomSet
 {
     let has = p.has;
     has.join(p.lacks)
-}
-
-pub fn both(p: Partial, q: Partial) -> Partial
-    ensures { λ r. ⌜ PartialIs r (union (num (p .has)) (num (q .has))) (union (num (p .lacks)) (num (q .lacks))) ⌝ }
-{
-    having(lacking(p, q.lacks), q.has)
 }
 
 pub fn same(p: Partial, q: Partial) -> bool

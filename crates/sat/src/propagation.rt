@@ -3,12 +3,11 @@ use super::Partial;
 use super::known;
 use atoms::AtomSet;
 ghost use mathlib.Core.Path.{_≡_};
-ghost use mathlib.Core.Bool.{true};
 ghost use Prim.Native.Nat.{_≤_};
 ghost use Rattle.atoms.specs.Words.{num};
 ghost use Rattle.ipl.specs.Clause.{satisfies};
 ghost use Rattle.sat.specs.Table.{Holds, AllHold, allHold, PassedHolding};
-ghost use Rattle.sat.specs.Knowledge.{Fair, mayTell, PassedSilent, Forces, Propagates, Blocks};
+ghost use Rattle.sat.specs.Knowledge.{Fair, mayTell, PassedSilent, Forces, Propagates};
 
 enum Forced {
     Conflict,
@@ -194,31 +193,6 @@ pub fn propagate<'a>(left: &'a [u64], right: &'a [u64], count: usize, p: Partial
                 }
             },
         }
-    }
-}
-
-// Whether propagation alone meets a conflict under both p and q.
-pub fn conflicts<'a>(
-    left: &'a [u64],
-    right: &'a [u64],
-    count: usize,
-    p: Partial,
-    q: Partial,
-) -> bool
-    ensures { λ r. ⌜ (r ≡ true → Blocks (AllHold (now (left .entry)) (now (right .entry)) count) p q) ⌝ }
-{
-    let sum = known::both(p, q);
-    let has = sum.has;
-    let lacks = sum.lacks;
-    if has.meets(lacks) {
-        return true;
-    }
-    has.bounded();
-    lacks.bounded();
-    match propagate(left, right, count, sum) {
-        Propagated::Conflict => true,
-        Propagated::Model(_) => false,
-        Propagated::Open(_) => false,
     }
 }
 

@@ -1,6 +1,6 @@
 //! Times the proved library, the whole program `settle` and the second implementation side by side, formula by formula,
 //! and prints one table in milliseconds; then calls on a session beside scripts of them, pages of goals beside single
-//! questions, and screenings. The path of `settle` may be given as an argument.
+//! questions, screenings, and the checking of hostile sheets. The path of `settle` may be given as an argument.
 
 mod calls;
 mod clock;
@@ -8,6 +8,7 @@ mod pages;
 mod screenings;
 mod scripts;
 mod sets;
+mod sheets;
 
 use outside::program::{self, SETTLE};
 use outside::proved::{call, Task};
@@ -40,6 +41,8 @@ fn main() {
     screenings::print_times();
     println!();
     screenings::print_counts();
+    println!();
+    sheets::print_times();
 }
 
 /// One way to what is printed of a formula.

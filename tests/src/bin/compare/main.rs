@@ -3,6 +3,7 @@
 mod both;
 mod certificates;
 mod formulas;
+mod hostile;
 mod interface;
 mod known;
 mod texts;
@@ -22,6 +23,9 @@ pub struct Counts {
     countermodels: usize,
     texts: usize,
     certificates: usize,
+    hostile: usize,
+    /// Hostile sheets that are right.
+    accepted: usize,
 }
 
 /// So much there is to compare on the fixed seed: a list that shrank or a loop that ended early shows here.
@@ -34,6 +38,8 @@ const WANTED: Counts = Counts {
     countermodels: 23_033,
     texts: 55_761,
     certificates: 93_152,
+    hostile: 943,
+    accepted: 397,
 };
 
 fn main() {
@@ -45,10 +51,11 @@ fn main() {
     formulas::compare(&mut random, &mut counts);
     texts::compare(&mut random, &mut counts);
     certificates::compare(&mut random, &mut counts);
+    hostile::compare(&mut random, &mut counts);
     assert_eq!(counts, WANTED, "what was compared");
     println!(
         "no difference: {} calls of other lengths and tasks, {} known formulas ({} refused), {} random formulas ({} by the \
-         sequent prover, {} countermodels), {} texts, {} certificates in {:.1} s",
+         sequent prover, {} countermodels), {} texts, {} certificates, {} hostile ones ({} accepted) in {:.1} s",
         counts.calls,
         counts.known,
         counts.refused,
@@ -57,6 +64,8 @@ fn main() {
         counts.countermodels,
         counts.texts,
         counts.certificates,
+        counts.hostile,
+        counts.accepted,
         start.elapsed().as_secs_f64()
     );
 }

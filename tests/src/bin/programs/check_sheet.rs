@@ -1,7 +1,7 @@
 //! The program `check_sheet`: what it prints of sheets, damaged sheets and long ones.
 
 use crate::printed;
-use outside::certificate::{verdict_line, write};
+use outside::certificate::{claiming, verdict_line, write};
 use outside::corpus::entries;
 use outside::naming::{Flat, Implication, Problem, FALSE};
 use outside::program::{run, run_in_pieces, CHECK_SHEET};
@@ -57,7 +57,7 @@ fn refuted(flats: usize, implications: usize, worlds: usize) -> Vec<u8> {
 fn valid(flats: usize, implications: usize, steps: usize) -> Vec<u8> {
     let problem =
         Problem { atoms: 1, flats: vec![FLAT; flats], implications: vec![IMPLICATION; implications], goal: FALSE };
-    write(&problem, &Answer { verdict: Verdict::Valid, steps: vec![STEP; steps], questions: 0 })
+    claiming(&problem, vec![STEP; steps])
 }
 
 fn full_tables() -> Vec<Vec<u8>> {

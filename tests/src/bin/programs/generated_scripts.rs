@@ -1,6 +1,7 @@
 //! Scripts too long to be stored.
 
-use outside::naming::{single, FALSE};
+use outside::hostile::small;
+use outside::naming::{single, Flat, FALSE};
 use outside::report::{certified, settle_text};
 use outside::script::{hexadecimal, MOST_LINE_BYTES};
 use outside::texts::with_every_connective;
@@ -97,5 +98,19 @@ pub fn long_pages() -> Vec<u8> {
     }
     let goals: String = (0..32).map(|goal| format!(" {goal}")).collect();
     script += &format!("page{goals}{goals}\nsheet\nmean 0\n");
+    script.into_bytes()
+}
+
+/// Sessions over small hostile tables, whole and without their last clause, asked for ⊥ and for some atoms.
+pub fn hostile_sessions() -> Vec<u8> {
+    let mut script = String::new();
+    for table in small() {
+        for rows in [&table.rows[..], &table.rows[..table.rows.len() - 1]] {
+            script += &format!("open {}\n", table.atoms);
+            script += &rows.iter().map(|Flat { left, right }| format!("flat {left} {right}\n")).collect::<String>();
+            script += &(0..table.atoms).step_by(8).map(|goal| format!("ask {goal}\n")).collect::<String>();
+            script += &format!("ask {FALSE}\n");
+        }
+    }
     script.into_bytes()
 }

@@ -1,6 +1,6 @@
 //! The program `session`: what it answers to stored, generated and random scripts, and in a dialogue.
 
-use crate::generated_scripts::{damaged_sheets, every_byte, long_lines, long_pages, wrong_byte};
+use crate::generated_scripts::{damaged_sheets, every_byte, hostile_sessions, long_lines, long_pages, wrong_byte};
 use crate::random_scripts::{kinds, Tally, Writer};
 use crate::{fail, printed};
 use outside::program::{run, run_in_pieces, writes, Conversation, SESSION};
@@ -36,6 +36,7 @@ pub fn compare(random: &mut Random) -> Scripts {
     scripts.answered("damaged sheets", &damaged_sheets());
     scripts.answered("long lines", &long_lines());
     scripts.answered("long pages", &long_pages());
+    scripts.answered("hostile sessions", &hostile_sessions());
     scripts.dialogue();
     scripts.written_together();
     scripts.random(random);

@@ -1,21 +1,15 @@
--- The machine's count of leading zeros finds the highest atom.
+-- The set of the atom with the highest number.
 use borrow.Author.Needs.{needs}
 use native.Mathlib.Omega.{arith}
+use Rattle.atoms.specs.Sets.{limit}
 use Rattle.atoms.specs.Words.{num}
-use Rattle.atoms.proofs.Machine.{leading-small, highest-word, highest-none}
+use Rattle.atoms.proofs.Machine.{highest-single}
 use Rattle.atoms.proofs.AtomSet.highest.Statement.{statement}
 use Rattle.atoms.proofs.AtomSet.highest.Tie as tie
 
 returns : tie.Need-returns
-unfolding num
-returns c = highest-none (c .before .before .args .self .bits) (c .if1 .taken)
-
-sub-t4 : tie.Need-sub-t4
-sub-t4 c = leading-small (c .before .before .before .args .self .bits) (omega (arith, c .before .if1 .left)) (omega arith)
-
-returns-2 : tie.Need-returns-2
-unfolding num
-returns-2 c = highest-word (c .before .before .before .args .self .bits) (omega (arith, c .before .if1 .left)) (omega arith)
+unfolding num limit
+returns c = highest-single _ _ _ (omega arith) (c .before .highest-number .ensures) (c .single .ensures)
 
 pub highest-spec : {M : Type 1} → statement M
-highest-spec = tie.close (tie.spec returns sub-t4 (λ c. search needs) (λ c. search needs) returns-2)
+highest-spec = tie.close (tie.spec (λ c κs. search needs) (λ c κs. search needs) returns)

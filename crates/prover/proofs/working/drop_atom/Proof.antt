@@ -1,30 +1,37 @@
 -- Absent, dropped or kept.
-use borrow.Author.Tests.{not-true, not-false}
-use mathlib.Core.Path.{sym, ap, _∙_}
-use Rattle.sat.specs.Answer.{answerOf}
-use Rattle.prover.proofs.Dropping.{drop-absent, drop-taken, drop-kept}
 use borrow.Author.Needs.{needs}
+use borrow.Author.Tests.{not-true, not-false}
+use mathlib.Core.Path.{sym, _∙_}
+use Rattle.prover.proofs.Dropping.{drop-absent, drop-taken, drop-kept}
 use Rattle.prover.proofs.working.drop_atom.Statement.{statement}
 use Rattle.prover.proofs.working.drop_atom.Tie as tie
 
 returns : tie.Need-returns
-returns c = drop-absent _ _ _ _ _ (sym (c .before .has .ensures) ∙ not-true _ (c .if1 .taken))
+returns c = (drop-absent _ _ _ _ _ (sym (c .before .has .ensures) ∙ not-true _ (c .if1 .taken)), c .before .before .before .before .before .before .pre .2)
 
 returns-2 : tie.Need-returns-2
 returns-2 c =
-    let a = c .before .before in
-    let e = a .before .before .before in
-    let s = e .before .before .before .before in
-    drop-taken _ _ _ _ _ (sym (e .before .has .ensures) ∙ not-false _ (e .if1 .left)) (s .pre .0) (s .pre .1) _ _ (a .before .before .single .ensures) (a .before .without .ensures)
-    (ap answerOf (sym (c .enum-told .given .1)) ∙ a .ask .ensures)
+    let asked = c .before .before .before .before .before in
+    let rest = asked .before .before .before in
+    let there = rest .before .before in
+    let start = there .before .before .before .before .before .before in
+    let told = asked .proves .ensures (start .pre .2) in (
+      drop-taken _ _ _ _ _ (sym (there .before .has .ensures) ∙ not-false _ (there .if1 .left)) (start .pre .0) (start .pre .1)
+          _ _ (rest .before .single .ensures) (rest .without .ensures) (sym (told .0) ∙ c .if2 .taken),
+      told .1,
+    )
 
 returns-3 : tie.Need-returns-3
 returns-3 c =
-    let a = c .before .before in
-    let e = a .before .before .before in
-    let s = e .before .before .before .before in
-    drop-kept _ _ _ _ _ (sym (e .before .has .ensures) ∙ not-false _ (e .if1 .left)) (s .pre .0) (s .pre .1) _ _ (a .before .before .single .ensures) (a .before .without .ensures)
-    _ (ap answerOf (sym (c .enum-told2 .given .1)) ∙ a .ask .ensures)
+    let asked = c .before .before .before .before .before in
+    let rest = asked .before .before .before in
+    let there = rest .before .before in
+    let start = there .before .before .before .before .before .before in
+    let told = asked .proves .ensures (start .pre .2) in (
+      drop-kept _ _ _ _ _ (sym (there .before .has .ensures) ∙ not-false _ (there .if1 .left)) (start .pre .0) (start .pre .1)
+          _ _ (rest .before .single .ensures) (rest .without .ensures) (sym (told .0) ∙ c .if2 .left),
+      told .1,
+    )
 
 pub drop-atom-spec : {M : Type 1} → statement M
 drop-atom-spec =
@@ -38,4 +45,6 @@ drop-atom-spec =
     (λ c. search needs)
     (λ c. search needs)
     returns-2
+    (λ c. search needs)
+    (λ c. search needs)
     returns-3)

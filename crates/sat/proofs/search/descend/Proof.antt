@@ -8,8 +8,7 @@ use Rattle.sat.specs.Knowledge.{Forces, Propagates}
 use Rattle.sat.specs.declared.propagation.Forced.the-variants.{Known}
 use Rattle.sat.proofs.Clause.{positive}
 use Rattle.sat.proofs.Table.{all-hold-iff}
-use Rattle.sat.proofs.Knowledge.{part-refl}
-use Rattle.sat.proofs.Descent.{known-least, known-none, conflict-blocks, none-open, pick-highest}
+use Rattle.sat.proofs.Descent.{known-least, known-none, none-open, pick-highest}
 use Rattle.sat.proofs.search.descend.Statement.{statement}
 use Rattle.sat.proofs.search.descend.Tie as tie
 
@@ -17,14 +16,6 @@ use Rattle.sat.proofs.search.descend.Tie as tie
 left-open : (c : tie.After-q2) → let a = c .before .before .before .before .before .args in
     Forces (AllHold (a .left .now) (a .right .now) (a .count)) (a .known) (Known (c .q2 .given .0 .0))
 left-open c = subst (Propagates _ _) (c .q2 .given .1) (c .before .before .propagate .ensures)
-
-propagate-requires : tie.Need-propagate-requires
-propagate-requires c κs = c .before .before .pre .fair
-
-needed-requires : tie.Need-needed-requires
-needed-requires c κs =
-    conflict-blocks _ _ _ _ (c .before .before .before .before .before .pre)
-    (subst (Propagates _ _) (c .enum-told .given .1) (c .before .before .propagate .ensures))
 
 returns : tie.Need-returns
 returns c =
@@ -40,6 +31,9 @@ returns-2 c =
     let q = c .before .before .before .before .before .before .before .before in
     known-least _ _ _ _ _ (left-open q) (all-hold-iff _ _ _ _ .0 (true-T (sym (c .before .all-hold .ensures) ∙ c .if2 .taken)))
 
+returns-3 : tie.Need-returns-3
+returns-3 c m w = subst (Propagates _ _) (c .enum-told .given .1) (c .before .before .propagate .ensures) m (w .extends) (w .holds)
+
 returns-4 : tie.Need-returns-4
 returns-4 c =
     let q = c .before .before in
@@ -50,20 +44,17 @@ returns-5 : tie.Need-returns-5
 returns-5 c =
     let e = c .before .before .before in
     let o = e .before in
-    let q = o .before .before .before .before in (
-      known-none _ _ _ _ _ (q .before .before .before .before .before .pre) (left-open q)
-          (none-open _ _ _ _ (o .before .before .atoms .ensures) (o .before .complement .ensures) (eqb-true _ _ (sym (o .is-empty .ensures) ∙ not-false _ (e .if1 .left))))
-          (λ h. false-T (sym (c .before .all-hold .ensures) ∙ c .if2 .left) (all-hold-iff _ _ _ _ .1 h)),
-      part-refl _,
-    )
+    let q = o .before .before .before .before in
+    known-none _ _ _ (left-open q)
+    (none-open _ _ _ _ (o .before .before .atoms .ensures) (o .before .complement .ensures) (eqb-true _ _ (sym (o .is-empty .ensures) ∙ not-false _ (e .if1 .left))))
+    (λ h. false-T (sym (c .before .all-hold .ensures) ∙ c .if2 .left) (all-hold-iff _ _ _ _ .1 h))
 
 pub descend-spec : {M : Type 1} → statement M
 descend-spec =
     tie.close
     (tie.spec
-    propagate-requires
+    (λ c κs. search needs)
     (λ c. search needs)
-    needed-requires
     (λ c. search needs)
     (λ c. search needs)
     (λ c κs. search needs)
@@ -73,6 +64,6 @@ descend-spec =
     returns
     (λ c κs. search needs)
     returns-2
-    (λ c. search needs)
+    returns-3
     returns-4
     returns-5)

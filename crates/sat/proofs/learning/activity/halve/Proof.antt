@@ -1,0 +1,27 @@
+-- Each turn goes one number down.
+use borrow.Author.Needs.{needs}
+use mathlib.Core.Path.{_≡_}
+use lib.ListN.{length}
+use Rattle.sat.proofs.learning.activity.halve.Statement.{statement}
+use Rattle.sat.proofs.learning.activity.halve.Tie as tie
+
+abbrev Inv-loop : tie.InvT-loop
+Inv-loop activity₀ i₀ activity i = length activity ≡ length activity₀
+
+abbrev μ-loop : tie.MeasureT-loop
+μ-loop activity₀ i₀ activity i = i
+
+pub halve-spec : {M : Type 1} → statement M
+halve-spec =
+    tie.close
+    (tie.spec
+    Inv-loop
+    μ-loop
+    (λ c. search needs)
+    (λ c. search needs)
+    (λ c κs. search needs)
+    (λ c κs. search needs)
+    (λ c. search needs)
+    (λ c. search needs)
+    (λ c. search needs)
+    (λ c. search needs))

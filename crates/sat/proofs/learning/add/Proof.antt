@@ -1,0 +1,33 @@
+-- One row more, where there is room.
+use borrow.Author.Needs.{needs}
+use native.Mathlib.Omega.{arith}
+use Rattle.sat.proofs.Rows.{longer-more}
+use Rattle.sat.proofs.learning.add.Statement.{statement}
+use Rattle.sat.proofs.learning.add.Tie as tie
+
+returns-3 : tie.Need-returns-3
+returns-3 c =
+    let right = c .before .before in
+    let left = right .before .before .before .before in
+    let room = left .before .before .before in
+    let start = room .before .before .before .before .before .before .before in
+    longer-more _ _ _ _ (start .pre .0) _ _ _ _ (left .set-row .ensures) (right .set-row2 .ensures)
+    (omega (arith, room .before .before .before .rows .ensures)) (omega (arith, room .rows2 .ensures)) (start .pre .1)
+
+pub add-spec : {M : Type 1} → statement M
+add-spec =
+    tie.close
+    (tie.spec
+    (λ c κs. search needs)
+    (λ c. search needs)
+    (λ c. search needs)
+    (λ c κs. search needs)
+    (λ c. search needs)
+    (λ c. search needs)
+    (λ c. search needs)
+    (λ c κs. search needs)
+    (λ c κs. search needs)
+    (λ c. search needs)
+    (λ c. search needs)
+    (λ c. search needs)
+    returns-3)

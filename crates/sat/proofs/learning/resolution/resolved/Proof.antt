@@ -1,0 +1,36 @@
+-- The row and the clause are resolved, or the clause and the row.
+use borrow.Author.Needs.{needs}
+use Rattle.sat.proofs.Resolution.{resolve}
+use Rattle.sat.proofs.learning.resolution.resolved.Statement.{statement}
+use Rattle.sat.proofs.learning.resolution.resolved.Tie as tie
+
+returns : tie.Need-returns
+returns c m hk hr =
+    let l = c .before .before in
+    let x = l .before .before .before .before .before .before .before .before in
+    resolve m _ _ _ _ _ _ _ _ _ _ (x .single .ensures) (l .before .without .ensures) (c .before .without2 .ensures) (l .join3 .ensures) (c .join4 .ensures) hr hk
+
+returns-2 : tie.Need-returns-2
+returns-2 c m hk hr =
+    let l = c .before .before in
+    let x = l .before .before .before .before .before .before .before .before in
+    resolve m _ _ _ _ _ _ _ _ _ _ (x .single .ensures) (l .before .without3 .ensures) (c .before .without4 .ensures) (l .join5 .ensures) (c .join6 .ensures) hk hr
+
+pub resolved-spec : {M : Type 1} → statement M
+resolved-spec =
+    tie.close
+    (tie.spec
+    (λ c κs. search needs)
+    (λ c κs. search needs)
+    (λ c κs. search needs)
+    (λ c κs. search needs)
+    (λ c κs. search needs)
+    (λ c κs. search needs)
+    (λ c κs. search needs)
+    (λ c κs. search needs)
+    (λ c κs. search needs)
+    (λ c κs. search needs)
+    (λ c κs. search needs)
+    (λ c κs. search needs)
+    returns
+    returns-2)

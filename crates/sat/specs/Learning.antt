@@ -1,0 +1,68 @@
+-- What rows learned by resolution say: no more than the table.
+use mathlib.Core.Bool.{Bool}
+use mathlib.Core.List.{List}
+use mathlib.Core.Path.{_≡_}
+use Prim.Native.Nat.{ℕ, _+_, _≤_, _<_}
+use lib.ListN.{length}
+use Rattle.atoms.specs.Words.{num, rowOf, rowCount}
+use Rattle.sat.specs.Table.{Holds, AllHold}
+use Rattle.sat.specs.Descent.{Told, Decides}
+use Rattle.sat.specs.declared.Partial.{Partial}
+use Rattle.sat.specs.declared.Proof.{Proof}
+use Rattle.sat.specs.declared.longer.Settled.{Settled}
+use Rattle.sat.specs.declared.learning.resolution.Clause.{Clause}
+
+-- A clause in hand is true at m.
+abbrev pub ClauseHolds : Clause → ℕ → Type 0
+ClauseHolds k m = Holds (num (k .left)) (num (k .right)) m
+
+-- It is true wherever the rows are.
+abbrev pub ClauseFollows : List ℕ → List ℕ → ℕ → Clause → Type 0
+ClauseFollows left right total k = (m : ℕ) → AllHold left right total m → ClauseHolds k m
+
+-- The rows of a second table are true wherever those of the first are.
+abbrev pub Follow : List ℕ → List ℕ → ℕ → List ℕ → List ℕ → ℕ → Type 0
+Follow left right count left2 right2 count2 = (m : ℕ) → AllHold left right count m → AllHold left2 right2 count2 m
+
+-- The first `own` rows stay, and every row then there is true wherever the rows before were.
+pub record Longer (own : ℕ) (left right : List ℕ) (total : ℕ) (left2 right2 : List ℕ) (total2 : ℕ) : Type 0 where
+  pub own-left : (k : ℕ) → k < own → rowOf left2 k ≡ rowOf left k
+  pub own-right : (k : ℕ) → k < own → rowOf right2 k ≡ rowOf right k
+  pub enough : own ≤ total2
+  pub follows : Follow left right total left2 right2 total2
+
+-- The table stands first in the longer one, where there is room for it, and where the rows kept follow from it, so does the longer one.
+pub record Filled (left right : List ℕ) (count : ℕ) (keptLeft keptRight : List ℕ) (kept : ℕ) (left2 right2 : List ℕ) (total : ℕ) : Type 0 where
+  pub own-left : count ≤ total → (k : ℕ) → k < count → rowOf left2 k ≡ rowOf left k
+  pub own-right : count ≤ total → (k : ℕ) → k < count → rowOf right2 k ≡ rowOf right k
+  pub follows : Follow left right count keptLeft keptRight kept → Follow left right count left2 right2 total
+
+-- Rows are moved down: those before c were passed, some of them stand before `to`, and those from c on stand where they stood.
+pub record Moved (own : ℕ) (left right : List ℕ) (total : ℕ) (left2 right2 : List ℕ) (to c : ℕ) : Type 0 where
+  pub begun : own ≤ to
+  pub behind : to ≤ c
+  pub left-size : length left2 ≡ length left
+  pub right-size : length right2 ≡ length right
+  pub own-left : (k : ℕ) → k < own → rowOf left2 k ≡ rowOf left k
+  pub own-right : (k : ℕ) → k < own → rowOf right2 k ≡ rowOf right k
+  pub rest-left : (k : ℕ) → c ≤ k → rowOf left2 k ≡ rowOf left k
+  pub rest-right : (k : ℕ) → c ≤ k → rowOf right2 k ≡ rowOf right k
+  pub follow : Follow left right total left2 right2 to
+
+-- Row c is passed, whatever table was begun with.
+abbrev pub Passes : List ℕ → List ℕ → ℕ → ℕ → ℕ → List ℕ → List ℕ → ℕ → Type 0
+Passes left right total to c left2 right2 to2 =
+    (own : ℕ) (left0 right0 : List ℕ) → total ≤ rowCount left0 → total ≤ rowCount right0 → Moved own left0 right0 total left right to c
+    → Moved own left0 right0 total left2 right2 to2 (c + 1)
+
+-- Where the rows kept follow from the table, the answer is right, and the rows then kept follow too.
+abbrev pub ToldKeeping : List ℕ → List ℕ → ℕ → Partial → Bool → List ℕ → List ℕ → ℕ → List ℕ → List ℕ → Settled → Type 0
+ToldKeeping left right count p smallest keptLeft keptRight kept keptLeft2 keptRight2 r =
+    Follow left right count keptLeft keptRight kept
+    → Told (AllHold left right count) p smallest (r .answer) × Follow left right count keptLeft2 keptRight2 (r .kept)
+
+-- The same with yes or no for its answer.
+abbrev pub DecidesKeeping : List ℕ → List ℕ → ℕ → Partial → List ℕ → List ℕ → ℕ → List ℕ → List ℕ → Proof → Type 0
+DecidesKeeping left right count p keptLeft keptRight kept keptLeft2 keptRight2 r =
+    Follow left right count keptLeft keptRight kept
+    → Decides (AllHold left right count) p (r .proved) × Follow left right count keptLeft2 keptRight2 (r .kept)
