@@ -8,7 +8,8 @@ use native.Mathlib.Omega.{arith}
 use Rattle.atoms.specs.Words.{rowOf, rowCount, RowSet, RowsSet}
 use Rattle.atoms.proofs.Machine.{same-rows, rows-first}
 use Rattle.sat.specs.Table.{Holds, AllHold}
-use Rattle.sat.specs.Learning.{Follow, Longer, Filled, Moved}
+use Rattle.sat.specs.Learning.{ClauseFollows, Follow, Longer, Filled, Moved}
+use Rattle.sat.specs.declared.learning.resolution.Clause.{Clause}
 
 -- ---- tables that follow
 
@@ -60,6 +61,24 @@ module _ (own : ℕ) where
       enough = omega arith;
       follows = follow-more left right total left right left2 right2 total l r (λ m h. h) a b ka kb row;
     }
+
+-- ---- tables to which rows were added
+
+module _ (left right : List ℕ) (total : ℕ) (left2 right2 : List ℕ) (total2 : ℕ) (g : Longer total left right total left2 right2 total2) where
+  -- What was true wherever the rows were is so still.
+  pub follows-later : (k : Clause) → ClauseFollows left right total k → ClauseFollows left2 right2 total2 k
+  follows-later k f m h = f m (rows-same left2 right2 left right total total2 (g .enough) (λ i l. sym (g .own-left i l)) (λ i l. sym (g .own-right i l)) m h)
+
+  pub longer-less : (own : ℕ) → own ≤ total → Longer own left right total left2 right2 total2
+  longer-less own e = record {
+    own-left = λ k l. g .own-left k (omega arith);
+    own-right = λ k l. g .own-right k (omega arith);
+    enough = omega (arith, g .enough);
+    follows = g .follows;
+  }
+
+  pub longer-later : (own : ℕ) (left0 right0 : List ℕ) (total0 : ℕ) → Longer own left0 right0 total0 left right total → Longer own left0 right0 total0 left2 right2 total2
+  longer-later own left0 right0 total0 f = longer-trans own left0 right0 left right left2 right2 total0 total total2 f (longer-less own (f .enough))
 
 -- ---- rows moved down
 

@@ -2,20 +2,20 @@
 use mathlib.Core.Bool.{Bool, true, false, not, _||_}
 use mathlib.Core.List.{List, [], _∷_, _++_}
 use mathlib.Core.Logic.{_↔_, inl, inr}
-use mathlib.Core.Path.{_≡_, refl, ap, _∙_, subst, ap₂}
+use mathlib.Core.Path.{_≡_, refl, sym, ap, _∙_, subst, ap₂}
 use Prim.Native.Nat.{ℕ, zero, suc, _+_, _-_, _<_, min, max}
 use native.Mathlib.Decide.{decLe, decLt}
 use native.Mathlib.Nat.{le-refl, not-suc-le-zero}
 use native.Mathlib.Numerals.{add-one}
 use native.Mathlib.Omega.{arith}
 use lib.Dec.{T, T-not, not-T, eqb, eqb→eq}
-use borrow.Author.Tests.{eq-eqb}
+use borrow.Author.Tests.{eq-eqb, not-true}
 use Rattle.atoms.specs.Sets.{bitAt, limit, union, common, minus, within, meets}
-use Rattle.atoms.specs.Words.{singleOrEmpty, rowOf, rowCount, RowSet}
+use Rattle.atoms.specs.Words.{singleOrEmpty, HighestOrEmpty, rowOf, rowCount, RowSet}
 use Rattle.atoms.proofs.Truth.{T-left, T-right, T-and, T-or, T-false, T-iff, T-dne, true-T, false-T}
 use Rattle.atoms.proofs.Bits.{bit-le, bit-zero, bit-other, bit-and, bit-or, bit-minus, bit-ext}
 use Rattle.atoms.proofs.Machine.{single-bits, single-none}
-use Rattle.atoms.proofs.Members.{has-bit, bit-has, within-bits, bits-within, has-meets, meets-has}
+use Rattle.atoms.proofs.Members.{has-bit, bit-has, within-bits, bits-within, has-meets, meets-has, without-highest-less}
 use Rattle.ipl.specs.Clause.{satisfies}
 use Rattle.ipl.specs.Lists.{All}
 use Rattle.ipl.proofs.Lists.{All-tabulate, tabulate-more}
@@ -154,3 +154,7 @@ module _ (left right : List ℕ) where
         λ h. each .1 (λ k l. holds-satisfies (rowOf left k) (rowOf right k) m (h k l)),
         λ h k l. satisfies-holds (rowOf left k) (rowOf right k) m (each .0 h k l),
       )
+
+-- Without its highest atom a set is a smaller number.
+pub taken-less : (s x r : ℕ) (b : Bool) → b ≡ eqb s 0 → not b ≡ true → HighestOrEmpty s x → r ≡ minus s x → r < s
+taken-less s x r b e t h er = omega (arith, er, without-highest-less s x (sym e ∙ not-true b t) h)

@@ -10,6 +10,9 @@ use Rattle.sat.specs.Descent.{Told, Decides}
 use Rattle.sat.specs.declared.Partial.{Partial}
 use Rattle.sat.specs.declared.Proof.{Proof}
 use Rattle.sat.specs.declared.longer.Settled.{Settled}
+use Rattle.sat.specs.declared.learning.End.{End}
+use Rattle.sat.specs.declared.learning.End.the-variants.{Conflict, Learned, Model, Full}
+use Rattle.sat.specs.declared.learning.Outcome.{Outcome}
 use Rattle.sat.specs.declared.learning.resolution.Clause.{Clause}
 
 -- A clause in hand is true at m.
@@ -30,6 +33,17 @@ pub record Longer (own : ℕ) (left right : List ℕ) (total : ℕ) (left2 right
   pub own-right : (k : ℕ) → k < own → rowOf right2 k ≡ rowOf right k
   pub enough : own ≤ total2
   pub follows : Follow left right total left2 right2 total2
+
+-- A conflict that exploring ends with follows from the rows.
+abbrev pub EndFollows : List ℕ → List ℕ → ℕ → End → Type 0
+EndFollows left right total (Conflict k) = ClauseFollows left right total k
+EndFollows left right total (Learned c) = Unit {0}
+EndFollows left right total (Model m) = Unit {0}
+EndFollows left right total Full = Unit {0}
+
+-- All rows stay, those behind them follow, and so does a conflict at the end.
+abbrev pub Explored : List ℕ → List ℕ → ℕ → List ℕ → List ℕ → Outcome → Type 0
+Explored left right total left2 right2 r = Longer total left right total left2 right2 (r .total) × EndFollows left2 right2 (r .total) (r .end)
 
 -- The table stands first in the longer one, where there is room for it, and where the rows kept follow from it, so does the longer one.
 pub record Filled (left right : List ℕ) (count : ℕ) (keptLeft keptRight : List ℕ) (kept : ℕ) (left2 right2 : List ℕ) (total : ℕ) : Type 0 where

@@ -4,216 +4,264 @@ use super::Partial;
 use super::known;
 use atoms::AtomSet;
 ghost use mathlib.Core.Path.{_≡_};
-ghost use Prim.Native.Nat.{_≤_, _<_};
-ghost use Rattle.sat.specs.Learning.{Longer, ClauseFollows};
+ghost use Prim.Native.Nat.{_≤_};
+ghost use Rattle.sat.specs.Learning.{ClauseFollows, EndFollows, Explored, Longer};
 
 mod activity;
-mod numbers;
+mod notes;
 mod resolution;
 mod room;
-mod trail;
 mod watching;
 
-use numbers::NONE;
+use notes::NOTES;
 use resolution::Clause;
-use trail::Walk;
+use watching::Walk;
 
 // Rows of the longer table: all clauses known, and the learned ones.
 pub const ROWS: usize = ipl::KNOWN + 4096;
 
-// Turns that are taken at most.
-const TURNS: u64 = 1 << 26;
+// How many atoms may be assigned, one within the other.
+const DEEPEST: u8 = atoms::LIMIT + 1;
 
-// The rows of the longer table, and the atoms that were had when the learning ended.
-pub struct Learned {
-    pub total: usize,
-    pub model: AtomSet,
+// How often the search may start anew.
+const STARTS: u64 = 1 << 20;
+
+// How exploring ends: with a clause that fails at what is known; with one that was learned, at its row; with a model; or for want of
+// room.
+enum End {
+    Conflict(Clause),
+    Learned(usize),
+    Model(AtomSet),
+    Full,
 }
 
-// Where the learning stands: the walk, the rows, the atom from which on all are decided in falling order, and whether it is over.
-struct Stage {
-    walk: Walk,
+// The end, and the number of rows.
+struct Outcome {
     total: usize,
+    end: End,
+}
+
+// Where the learning stands: the number of rows, the model met last, the atom from which on all are decided in falling order, and
+// whether it is over.
+pub struct Stage {
+    pub total: usize,
+    pub model: AtomSet,
     ordered: u8,
     over: bool,
 }
 
-// Writes a clause that follows as a further row, where there is room; the number of rows is then the result.
-fn add(left: &mut [u64], right: &mut [u64], own: usize, total: usize, k: Clause) -> usize
-    requires { ⌜ (own ≤ total) × ClauseFollows (now left) (now right) total k ⌝ }
-    ensures { λ r. ⌜ Longer own (now (left .entry)) (now (right .entry)) total (now (left .exit)) (now (right .exit)) r ⌝ }
+// Assigns the open atom of row k, or none where it fails.
+fn force(notes: &mut [u16], v: Walk, k: Clause) -> Walk {
+    let open = resolution::open(k, v.known);
+    let left = k.left;
+    let atom = open.highest_number();
+    watching::assigned(notes, v, atom, !left.has(atom))
+}
+
+// Decides an open atom, false: the highest one where it is to be in order, else the busiest; none where all are known.
+fn decide(notes: &mut [u16], v: Walk, ordered: u8) -> Walk {
+    let known = v.known;
+    let spoken = known::atoms(known);
+    let open = spoken.complement();
+    let highest = open.highest_number();
+    let atom = if ordered <= highest {
+        highest
+    } else {
+        activity::busiest(notes, open)
+    };
+    let mut to = v;
+    to.before = spoken;
+    watching::assigned(notes, to, atom, false)
+}
+
+// The next atom is assigned: a row forces it, or it is decided.
+fn next<'a>(left: &'a [u64], right: &'a [u64], notes: &mut [u16], w: Walk, ordered: u8) -> Walk {
+    let v = watching::advance(left, right, notes, w);
+    if v.row < ROWS {
+        return force(notes, v, resolution::row(left, right, v.row));
+    }
+    decide(notes, v, ordered)
+}
+
+// How exploring ends where no atom could be assigned.
+fn ended<'a>(left: &'a [u64], right: &'a [u64], total: usize, v: Walk) -> End
+    ensures { λ e. ⌜ EndFollows (now (left .entry)) (now (right .entry)) total e ⌝ }
+{
+    if v.row < total {
+        return End::Conflict(resolution::row(left, right, v.row));
+    }
+    let known = v.known;
+    let has = known.has;
+    End::Model(has)
+}
+
+// Writes a clause that follows as a further row, where there is room.
+fn add(left: &mut [u64], right: &mut [u64], total: usize, k: Clause) -> Outcome
+    requires { ⌜ ClauseFollows (now left) (now right) total k ⌝ }
+    ensures { λ r. ⌜ Explored (now (left .entry)) (now (right .entry)) total (now (left .exit)) (now (right .exit)) r ⌝ }
 {
     if atoms::rows(left) <= total {
-        return total;
+        return Outcome {
+            total,
+            end: End::Full,
+        };
     }
     if atoms::rows(right) <= total {
-        return total;
+        return Outcome {
+            total,
+            end: End::Full,
+        };
     }
     atoms::set_row(left, total, k.left);
     atoms::set_row(right, total, k.right);
-    total + 1
-}
-
-// The walk after row c was learned: back at the level where it forces its one atom of the last level.
-fn resumed<'a>(
-    left: &'a [u64],
-    right: &'a [u64],
-    links: &mut [u16],
-    trail: &mut [u16],
-    w: Walk,
-    k: Clause,
-    level: AtomSet,
-    c: usize,
-) -> Walk {
-    let atoms = resolution::atoms_of(k);
-    let others = atoms.without(level);
-    let kept = trail::last(trail, w.len, others);
-    let b = trail::back(trail, w, c, kept);
-    let x = atoms.common(level).highest_number();
-    let l = k.left;
-    if 0 < kept {
-        let y = trail::atom(trail, kept - 1);
-        watching::watch_two(links, c, x, y, l);
+    Outcome {
+        total: total + 1,
+        end: End::Learned(total),
     }
-    let forced = trail::assign(trail, b, x, !l.has(x), (c % 65536) as u16);
-    watching::propagate(left, right, links, trail, forced)
 }
 
-// Learns from the row that fails.
-fn learn_row(
+// Learns a clause that follows.
+fn learn_clause(
     left: &mut [u64],
     right: &mut [u64],
-    own: usize,
-    links: &mut [u16],
-    trail: &mut [u16],
-    activity: &mut [u16],
-    base: Partial,
-    s: Stage,
-) -> Stage
-    requires { ⌜ (own ≤ s .total) × (s .walk .failing < s .total) ⌝ }
-    ensures { λ r. ⌜ Longer own (now (left .entry)) (now (right .entry)) (s .total) (now (left .exit)) (now (right .exit)) (r .total) ⌝ }
+    notes: &mut [u16],
+    total: usize,
+    k: Clause,
+) -> Outcome
+    requires { ⌜ ClauseFollows (now left) (now right) total k ⌝ }
+    ensures { λ r. ⌜ Explored (now (left .entry)) (now (right .entry)) total (now (left .exit)) (now (right .exit)) r ⌝ }
 {
-    let w = s.walk;
-    let total = s.total;
-    let level = trail::level(trail, w.len, total);
-    let k = resolution::analyse(
-        left,
-        right,
-        total,
-        trail,
-        w.len,
-        w.failing as usize,
-        level,
-        known::atoms(base),
-    );
-    activity::tell(activity, k.met, total);
-    let more = add(left, right, own, total, k);
-    let next = resumed(left, right, links, trail, w, k, level, total);
-    Stage {
-        walk: next,
-        total: more,
-        ordered: s.ordered,
-        over: level.is_empty(),
+    let s = resolution::shorter(left, right, notes, total, k);
+    activity::tell(notes, s.met, total);
+    add(left, right, total, s)
+}
+
+// Goes back over an assignment: a conflict is learned where it has one atom of the last level, else resolved with the row that forced the
+// atom; any other end stays.
+fn go_back(left: &mut [u64], right: &mut [u64], notes: &mut [u16], v: Walk, r: Outcome) -> Outcome
+    requires { ⌜ EndFollows (now left) (now right) (r .total) (r .end) ⌝ }
+    ensures { λ o. ⌜ Explored (now (left .entry)) (now (right .entry)) (r .total) (now (left .exit)) (now (right .exit)) o ⌝ }
+{
+    let total = r.total;
+    let end = r.end;
+    match end {
+        End::Conflict(k) => {
+            let level = resolution::atoms_of(k).without(v.before);
+            if resolution::is_single(level) {
+                return learn_clause(left, right, notes, total, k);
+            }
+            let end = End::Conflict(resolution::resolved_by(left, right, total, k, v.row, v.atom));
+            Outcome { total, end }
+        }
+        _ => r,
     }
 }
 
-// Decides an open atom, false: the highest one where it is to be in order, else the busiest.
-fn decide<'a>(
-    left: &'a [u64],
-    right: &'a [u64],
-    links: &mut [u16],
-    trail: &mut [u16],
-    activity: &[u16],
-    s: Stage,
-    open: AtomSet,
-) -> Walk {
-    let highest = open.highest_number();
-    let x = if s.ordered <= highest {
-        highest
-    } else {
-        activity::busiest(activity, open)
-    };
-    let decided = trail::assign(trail, s.walk, x, false, NONE);
-    watching::propagate(left, right, links, trail, decided)
+// What a row just learned forces from w on: an atom, where it is its only open one, and was not so before the last decision.
+fn follow<'a>(left: &'a [u64], right: &'a [u64], notes: &mut [u16], w: Walk, end: End) -> Walk {
+    match end {
+        End::Learned(c) => {
+            let k = resolution::row(left, right, c);
+            let open = resolution::open(k, w.known);
+            let late = resolution::atoms_of(k).without(open).without(w.before);
+            if late.is_empty() {
+                return watching::stopped(w);
+            }
+            let v = force(notes, watching::at_end(w, c), k);
+            watching::watch_two(notes, c, v.atom, late.highest_number(), k.left);
+            v
+        }
+        _ => watching::stopped(w),
+    }
 }
 
-// At a model: over, or, where the smallest is wanted, back to the start, with one atom more of the model to be decided in order.
-fn lower(trail: &[u16], s: Stage, given: AtomSet, smallest: bool) -> Stage
-    ensures { λ r. ⌜ r .total ≡ s .total ⌝ }
+// Explores what is known, each assignment in a call of its own: a conflict goes back through them, and what it teaches is learned.
+fn explore(
+    left: &mut [u64],
+    right: &mut [u64],
+    notes: &mut [u16],
+    total: usize,
+    w: Walk,
+    ordered: u8,
+    depth: u8,
+) -> Outcome
+    ensures { λ r. ⌜ Explored (now (left .entry)) (now (right .entry)) total (now (left .exit)) (now (right .exit)) r ⌝ }
 {
-    let w = s.walk;
-    let known = w.known;
-    let m = known.has;
+    if depth == 0 {
+        return Outcome {
+            total,
+            end: End::Full,
+        };
+    }
+    let less = depth - 1;
+    let v = next(left, right, notes, w, ordered);
+    if atoms::LIMIT <= v.atom {
+        return Outcome {
+            total,
+            end: ended(left, right, total, v),
+        };
+    }
+    let first = explore_under(left, right, notes, total, v, ordered, less);
+    let end = first.end;
+    let u = follow(left, right, notes, w, end);
+    if atoms::LIMIT <= u.atom {
+        return first;
+    }
+    explore_under(left, right, notes, first.total, u, ordered, less)
+}
+
+// Explores under an assignment, and goes back over it.
+fn explore_under(
+    left: &mut [u64],
+    right: &mut [u64],
+    notes: &mut [u16],
+    total: usize,
+    v: Walk,
+    ordered: u8,
+    depth: u8,
+) -> Outcome
+    ensures { λ r. ⌜ Explored (now (left .entry)) (now (right .entry)) total (now (left .exit)) (now (right .exit)) r ⌝ }
+{
+    let r = explore(left, right, notes, total, v, ordered, depth);
+    go_back(left, right, notes, v, r)
+}
+
+// At a model: over, or, where the smallest is wanted, one atom more of the model is to be decided in order.
+fn lower(s: Stage, total: usize, m: AtomSet, given: AtomSet, smallest: bool) -> Stage
+    ensures { λ r. ⌜ r .total ≡ total ⌝ }
+{
     let below = m.common(AtomSet::below(s.ordered)).without(given);
-    let ends = if smallest { below.is_empty() } else { true };
     Stage {
-        walk: if ends {
-            w
-        } else {
-            trail::back(trail, w, s.total, 0)
-        },
-        total: s.total,
+        total,
+        model: m,
         ordered: below.highest_number(),
-        over: ends,
+        over: if smallest { below.is_empty() } else { true },
     }
 }
 
-// Where no row fails: a decision, or what follows from a model.
-fn go_on<'a>(
-    left: &'a [u64],
-    right: &'a [u64],
-    links: &mut [u16],
-    trail: &mut [u16],
-    activity: &[u16],
-    given: AtomSet,
-    smallest: bool,
-    s: Stage,
-) -> Stage
-    ensures { λ r. ⌜ r .total ≡ s .total ⌝ }
-{
-    let w = s.walk;
-    let open = known::atoms(w.known).complement();
-    if open.is_empty() {
-        return lower(trail, s, given, smallest);
-    }
-    Stage {
-        walk: decide(left, right, links, trail, activity, s, open),
-        total: s.total,
-        ordered: s.ordered,
-        over: false,
-    }
-}
-
-// Drops rows, and starts anew.
+// Drops rows.
 fn make_room(
     left: &mut [u64],
     right: &mut [u64],
     own: usize,
-    links: &mut [u16],
-    trail: &mut [u16],
+    notes: &mut [u16],
+    total: usize,
     base: Partial,
-    s: Stage,
-) -> Stage
-    requires { ⌜ own ≤ s .total ⌝ }
-    ensures { λ r. ⌜ Longer own (now (left .entry)) (now (right .entry)) (s .total) (now (left .exit)) (now (right .exit)) (r .total) ⌝ }
+) -> usize
+    requires { ⌜ own ≤ total ⌝ }
+    ensures { λ r. ⌜ Longer own (now (left .entry)) (now (right .entry)) total (now (left .exit)) (now (right .exit)) r ⌝ }
 {
-    let total = room::shorten(left, right, own, s.total);
-    Stage {
-        walk: watching::start(left, right, total, links, trail, base),
-        total,
-        ordered: s.ordered,
-        over: ROWS <= total,
-    }
+    let fewer = room::shorten(left, right, own, total);
+    watching::enter_all(left, right, fewer, notes, base);
+    fewer
 }
 
-// One turn: room is made, a row is learned, or an atom is decided.
-fn turn(
+// Explores from the start, and does what its end asks for.
+fn start(
     left: &mut [u64],
     right: &mut [u64],
     own: usize,
-    links: &mut [u16],
-    trail: &mut [u16],
-    activity: &mut [u16],
+    notes: &mut [u16],
     base: Partial,
     smallest: bool,
     s: Stage,
@@ -221,38 +269,58 @@ fn turn(
     requires { ⌜ own ≤ s .total ⌝ }
     ensures { λ r. ⌜ Longer own (now (left .entry)) (now (right .entry)) (s .total) (now (left .exit)) (now (right .exit)) (r .total) ⌝ }
 {
-    let w = s.walk;
-    if ROWS <= s.total {
-        return make_room(left, right, own, links, trail, base, s);
+    let r = explore(
+        left,
+        right,
+        notes,
+        s.total,
+        watching::origin(base),
+        s.ordered,
+        DEEPEST,
+    );
+    let mut next = s;
+    next.total = r.total;
+    let end = r.end;
+    match end {
+        End::Model(m) => lower(s, r.total, m, base.has, smallest),
+        End::Learned(c) => {
+            watching::enter(left, right, notes, base, c);
+            next
+        }
+        End::Conflict(k) => {
+            let refuted = add(left, right, r.total, k);
+            next.total = refuted.total;
+            next.over = true;
+            next
+        }
+        End::Full => {
+            next.total = make_room(left, right, own, notes, r.total, base);
+            next.over = ROWS <= next.total;
+            next
+        }
     }
-    if (w.failing as usize) < s.total {
-        return learn_row(left, right, own, links, trail, activity, base, s);
-    }
-    go_on(left, right, links, trail, activity, base.has, smallest, s)
 }
 
-// Turns, until it is over or they are used up.
-fn turns(
+// Starts, until it is over or they are used up.
+fn starts(
     left: &mut [u64],
     right: &mut [u64],
     own: usize,
-    links: &mut [u16],
-    trail: &mut [u16],
-    activity: &mut [u16],
+    notes: &mut [u16],
     base: Partial,
     smallest: bool,
-    start: Stage,
+    from: Stage,
 ) -> Stage
-    requires { ⌜ own ≤ start .total ⌝ }
-    ensures { λ r. ⌜ Longer own (now (left .entry)) (now (right .entry)) (start .total) (now (left .exit)) (now (right .exit)) (r .total) ⌝ }
+    requires { ⌜ own ≤ from .total ⌝ }
+    ensures { λ r. ⌜ Longer own (now (left .entry)) (now (right .entry)) (from .total) (now (left .exit)) (now (right .exit)) (r .total) ⌝ }
 {
-    let mut s = start;
-    let mut more = TURNS;
+    let mut s = from;
+    let mut more = STARTS;
     while 0 < more {
         if s.over {
             return s;
         }
-        s = turn(left, right, own, links, trail, activity, base, smallest, s);
+        s = start(left, right, own, notes, base, smallest, s);
         more -= 1;
     }
     s
@@ -267,36 +335,17 @@ pub fn learn(
     total: usize,
     base: Partial,
     smallest: bool,
-) -> Learned
+) -> Stage
     requires { ⌜ own ≤ total ⌝ }
     ensures { λ r. ⌜ Longer own (now (left .entry)) (now (right .entry)) total (now (left .exit)) (now (right .exit)) (r .total) ⌝ }
 {
-    let mut links = [NONE; watching::LINKS];
-    let mut trail = [NONE; trail::TRAIL];
-    let mut activity = [0u16; trail::MOST];
-    let walk = watching::start(left, right, total, &mut links, &mut trail, base);
-    let start = Stage {
-        walk,
+    let mut notes = [0u16; NOTES];
+    watching::enter_all(left, right, total, &mut notes, base);
+    let s = Stage {
         total,
+        model: AtomSet::EMPTY,
         ordered: atoms::LIMIT,
         over: false,
     };
-    let s = turns(
-        left,
-        right,
-        own,
-        &mut links,
-        &mut trail,
-        &mut activity,
-        base,
-        smallest,
-        start,
-    );
-    let w = s.walk;
-    let known = w.known;
-    let model = known.has;
-    Learned {
-        total: s.total,
-        model,
-    }
+    starts(left, right, own, &mut notes, base, smallest, s)
 }

@@ -1,26 +1,24 @@
 -- Each turn takes one atom; the best one stays a byte.
 use borrow.Author.Needs.{needs}
-use borrow.Author.Tests.{not-true}
 use mathlib.Core.Logic.{⊎-elim}
-use mathlib.Core.Path.{sym, _∙_}
 use native.Mathlib.Omega.{arith}
 use Prim.Native.Nat.{_<_, _^_}
 use Rattle.atoms.specs.Words.{num}
-use Rattle.atoms.proofs.Members.{without-highest-less}
+use Rattle.sat.proofs.Table.{taken-less}
 use Rattle.sat.proofs.learning.activity.busiest.Statement.{statement}
 use Rattle.sat.proofs.learning.activity.busiest.Tie as tie
 
 abbrev Inv-loop : tie.InvT-loop
-Inv-loop activity best₀ rest₀ best rest = best < 2 ^ 8
+Inv-loop notes best₀ rest₀ best rest = best < 2 ^ 8
 
 abbrev μ-loop : tie.MeasureT-loop
-μ-loop activity best₀ rest₀ best rest = num rest
+μ-loop notes best₀ rest₀ best rest = num rest
 
 loop-less : tie.Need-loop-less Inv-loop μ-loop
 loop-less c =
     let h = c .before .before .before .before .before in
     let t = h .before in
-    omega (arith, c .without .ensures, without-highest-less (num (t .before .before .loop .rest)) _ (sym (t .before .is-empty .ensures) ∙ not-true _ (t .if1 .taken)) (h .highest .ensures))
+    taken-less _ _ _ _ (t .before .is-empty .ensures) (t .if1 .taken) (h .highest .ensures) (c .without .ensures)
 
 loop-again : tie.Need-loop-again Inv-loop μ-loop
 loop-again c = ⊎-elim (λ w. omega arith) (λ w. omega arith) (c .before .if2 .came)
@@ -37,7 +35,9 @@ busiest-spec =
     (λ c κs. search needs)
     (λ c κs. search needs)
     (λ c. search needs)
+    (λ c. search needs)
     (λ c κs. search needs)
+    (λ c. search needs)
     (λ c. search needs)
     (λ c κs. search needs)
     (λ c κs. search needs)

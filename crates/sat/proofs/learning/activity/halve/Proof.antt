@@ -6,10 +6,10 @@ use Rattle.sat.proofs.learning.activity.halve.Statement.{statement}
 use Rattle.sat.proofs.learning.activity.halve.Tie as tie
 
 abbrev Inv-loop : tie.InvT-loop
-Inv-loop activity₀ i₀ activity i = length activity ≡ length activity₀
+Inv-loop notes₀ i₀ notes i = length notes ≡ length notes₀
 
 abbrev μ-loop : tie.MeasureT-loop
-μ-loop activity₀ i₀ activity i = i
+μ-loop notes₀ i₀ notes i = i
 
 pub halve-spec : {M : Type 1} → statement M
 halve-spec =

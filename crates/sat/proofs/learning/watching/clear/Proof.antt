@@ -6,10 +6,10 @@ use Rattle.sat.proofs.learning.watching.clear.Statement.{statement}
 use Rattle.sat.proofs.learning.watching.clear.Tie as tie
 
 abbrev Inv-loop : tie.InvT-loop
-Inv-loop links₀ i₀ links i = length links ≡ length links₀
+Inv-loop notes₀ i₀ notes i = length notes ≡ length notes₀
 
 abbrev μ-loop : tie.MeasureT-loop
-μ-loop links₀ i₀ links i = i
+μ-loop notes₀ i₀ notes i = i
 
 pub clear-spec : {M : Type 1} → statement M
 clear-spec =
@@ -17,6 +17,7 @@ clear-spec =
     (tie.spec
     Inv-loop
     μ-loop
+    (λ c. search needs)
     (λ c. search needs)
     (λ c. search needs)
     (λ c κs. search needs)
