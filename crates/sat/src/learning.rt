@@ -226,19 +226,6 @@ fn explore_under(
     go_back(left, right, notes, v, r)
 }
 
-// At a model: over, or, where the smallest is wanted, one atom more of the model is to be decided in order.
-fn lower(s: Stage, total: usize, m: AtomSet, given: AtomSet, smallest: bool) -> Stage
-    ensures { λ r. ⌜ r .total ≡ total ⌝ }
-{
-    let below = m.common(AtomSet::below(s.ordered)).without(given);
-    Stage {
-        total,
-        model: m,
-        ordered: below.highest_number(),
-        over: if smallest { below.is_empty() } else { true },
-    }
-}
-
 // Drops rows.
 fn make_room(
     left: &mut [u64],
@@ -256,7 +243,58 @@ fn make_room(
     fewer
 }
 
-// Explores from the start, and does what its end asks for.
+// Does to the rows what the end of exploring asks for; their number is the result.
+fn close(
+    left: &mut [u64],
+    right: &mut [u64],
+    own: usize,
+    notes: &mut [u16],
+    base: Partial,
+    r: Outcome,
+) -> usize
+    requires { ⌜ (own ≤ r .total) × EndFollows (now left) (now right) (r .total) (r .end) ⌝ }
+    ensures { λ t. ⌜ Longer own (now (left .entry)) (now (right .entry)) (r .total) (now (left .exit)) (now (right .exit)) t ⌝ }
+{
+    let end = r.end;
+    match end {
+        End::Conflict(k) => {
+            let o = add(left, right, r.total, k);
+            o.total
+        }
+        End::Learned(c) => {
+            watching::enter(left, right, notes, base, c);
+            r.total
+        }
+        End::Full => make_room(left, right, own, notes, r.total, base),
+        _ => r.total,
+    }
+}
+
+// Where the learning stands after exploring: over at a conflict, and at a model; where the smallest is wanted, one atom more of the model
+// is to be decided in order.
+fn staged(s: Stage, end: End, total: usize, given: AtomSet, smallest: bool) -> Stage
+    ensures { λ r. ⌜ r .total ≡ total ⌝ }
+{
+    let mut next = s;
+    next.total = total;
+    match end {
+        End::Conflict(_) => {
+            next.over = true;
+        }
+        End::Model(m) => {
+            let below = m.common(AtomSet::below(s.ordered)).without(given);
+            next.model = m;
+            next.ordered = below.highest_number();
+            next.over = if smallest { below.is_empty() } else { true };
+        }
+        _ => {
+            next.over = ROWS <= total;
+        }
+    }
+    next
+}
+
+// Explores from the start.
 fn start(
     left: &mut [u64],
     right: &mut [u64],
@@ -278,27 +316,9 @@ fn start(
         s.ordered,
         DEEPEST,
     );
-    let mut next = s;
-    next.total = r.total;
     let end = r.end;
-    match end {
-        End::Model(m) => lower(s, r.total, m, base.has, smallest),
-        End::Learned(c) => {
-            watching::enter(left, right, notes, base, c);
-            next
-        }
-        End::Conflict(k) => {
-            let refuted = add(left, right, r.total, k);
-            next.total = refuted.total;
-            next.over = true;
-            next
-        }
-        End::Full => {
-            next.total = make_room(left, right, own, notes, r.total, base);
-            next.over = ROWS <= next.total;
-            next
-        }
-    }
+    let total = close(left, right, own, notes, base, r);
+    staged(s, end, total, base.has, smallest)
 }
 
 // Starts, until it is over or they are used up.
