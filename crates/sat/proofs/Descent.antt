@@ -265,7 +265,3 @@ module _ (P : ℕ → Type 0) (p : Partial) where
 
   pub model-told : (smallest : Bool) → smallest ≡ false → (s : AtomSet) → Model P (num (p .has)) (num (p .lacks)) (num s) → Told P p smallest (Countered s)
   model-told smallest e s w = subst (λ (b : Bool). Told P p b (Countered s)) (sym e) w
-
-  pub told-settles : (a : Answer) → Told P p true a → Settles P p a
-  told-settles Proved w = w
-  told-settles (Countered s) w = w

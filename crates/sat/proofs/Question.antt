@@ -1,5 +1,5 @@
 -- The search's answers are those of the definition: the models of what is given are the numbers that counter the question.
-use mathlib.Core.Bool.{Bool, true, false, not, true≢false, false≢true}
+use mathlib.Core.Bool.{true, false, not}
 use mathlib.Core.List.{List}
 use mathlib.Core.Option.{Option, none, some}
 use mathlib.Core.Path.{_≡_, refl, sym, ap, subst}
@@ -21,7 +21,7 @@ use Rattle.ipl.proofs.Question.{Answers, ask-right, ask-by}
 use Rattle.sat.specs.Table.{clauses, AllHold, Apart}
 use Rattle.sat.specs.Answer.{answerOf}
 use Rattle.sat.specs.Knowledge.{Fair}
-use Rattle.sat.specs.Descent.{Base, Model, NoModel, Settles, Decides}
+use Rattle.sat.specs.Descent.{Base, Model, NoModel, Told}
 use Rattle.sat.specs.declared.Answer.{Answer}
 use Rattle.sat.specs.declared.Answer.the-variants.{Proved, Countered}
 use Rattle.sat.specs.declared.Partial.{Partial}
@@ -81,20 +81,20 @@ module _ (left right : List ℕ) (count n given asked : ℕ) (p : Partial) (star
   start-counters m w = model-counters left right count n given asked (minus everyAtom (below n)) (num (p .lacks)) refl (start .lacks-is) m
       (subst (λ (y : ℕ). Model (AllHold left right count) y (num (p .lacks)) m) (start .has-is) w)
 
-  pub settled : (a : Answer) → Settles (AllHold left right count) p a → answerOf a ≡ ask (min n limit) (clauses left right count) given asked
+  pub settled : (a : Answer) → Told (AllHold left right count) p true a → answerOf a ≡ ask (min n limit) (clauses left right count) given asked
   settled Proved f = sym (ask-by (min n limit) (clauses left right count) given asked none (λ m c. f m (counters-start m c)))
   settled (Countered s) w =
       sym (ask-by (min n limit) (clauses left right count) given asked (some (num s)) (start-counters (num s) (w .member), λ k c. w .least k (counters-start k c)))
 
-  pub decided : (r : Bool) → Decides (AllHold left right count) p r → r ≡ isNone (ask (min n limit) (clauses left right count) given asked)
+  -- Any model is enough for no.
+  pub decided : (a : Answer) → Told (AllHold left right count) p false a → isNone (answerOf a) ≡ isNone (ask (min n limit) (clauses left right count) given asked)
   unfolding isNone
-  decided r d = go (ask (min n limit) (clauses left right count) given asked) (ask-right (min n limit) (clauses left right count) given asked) r d
+  decided Proved f = ap isNone (settled Proved f)
+  decided (Countered s) w = go (ask (min n limit) (clauses left right count) given asked) (ask-right (min n limit) (clauses left right count) given asked)
     where
-      go : (o : Option ℕ) → Answers (min n limit) (clauses left right count) given asked o → (r : Bool) → Decides (AllHold left right count) p r → r ≡ isNone o
-      go none h true d = refl
-      go none h false d = absurd (h (d .no-some refl .0) (start-counters (d .no-some refl .0) (d .no-some refl .1)))
-      go (some m) h true d = absurd (d .yes-none refl m (counters-start m (h .0)))
-      go (some m) h false d = refl
+      go : (o : Option ℕ) → Answers (min n limit) (clauses left right count) given asked o → isNone (some (num s)) ≡ isNone o
+      go none h = absurd (h (num s) (start-counters (num s) w))
+      go (some k) h = refl
 
 module _ (n given asked : ℕ) (p : Partial) (start : Base n given asked p) where
   -- What must be had and lacked at once has no model.
@@ -107,12 +107,3 @@ module _ (n given asked : ℕ) (p : Partial) (start : Base n given asked p) wher
     has-below = rw (start .has-is) l;
     lacks-below = k;
   }
-
--- ---- yes or no
-
-module _ (P : ℕ → Type 0) (p : Partial) where
-  pub decides-yes : NoModel P p → Decides P p true
-  decides-yes f = record { yes-none = λ e. f; no-some = λ e. absurd (true≢false e) }
-
-  pub decides-no : (m : ℕ) → Model P (num (p .has)) (num (p .lacks)) m → Decides P p false
-  decides-no m w = record { yes-none = λ e. absurd (false≢true e); no-some = λ e. (m, w) }

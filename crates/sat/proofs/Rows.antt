@@ -1,15 +1,14 @@
 -- Laws of tables that follow from a table, row by row.
 use mathlib.Core.List.{List}
-use mathlib.Core.Path.{_≡_, refl, sym, _∙_, subst}
-use Prim.Native.Nat.{ℕ, _+_, _-_, _≤_, _<_}
-use native.Mathlib.Decide.{decLt, ℕ-discrete}
+use mathlib.Core.Path.{_≡_, refl, sym, _∙_}
+use Prim.Native.Nat.{ℕ, _+_, _*_, _≤_, _<_}
+use native.Mathlib.Decide.{ℕ-discrete}
 use native.Mathlib.Nat.{le-refl}
 use native.Mathlib.Omega.{arith}
 use Rattle.atoms.specs.Words.{rowOf, rowCount, RowSet, RowsSet}
 use Rattle.atoms.proofs.Machine.{same-rows, rows-first}
 use Rattle.sat.specs.Table.{Holds, AllHold}
-use Rattle.sat.specs.Learning.{ClauseFollows, Follow, Longer, Filled, Moved}
-use Rattle.sat.specs.declared.learning.resolution.Clause.{Clause}
+use Rattle.sat.specs.Learning.{Follow, Longer, Moved, Kept, Filled}
 
 -- ---- tables that follow
 
@@ -65,10 +64,6 @@ module _ (own : ℕ) where
 -- ---- tables to which rows were added
 
 module _ (left right : List ℕ) (total : ℕ) (left2 right2 : List ℕ) (total2 : ℕ) (g : Longer total left right total left2 right2 total2) where
-  -- What was true wherever the rows were is so still.
-  pub follows-later : (k : Clause) → ClauseFollows left right total k → ClauseFollows left2 right2 total2 k
-  follows-later k f m h = f m (rows-same left2 right2 left right total total2 (g .enough) (λ i l. sym (g .own-left i l)) (λ i l. sym (g .own-right i l)) m h)
-
   pub longer-less : (own : ℕ) → own ≤ total → Longer own left right total left2 right2 total2
   longer-less own e = record {
     own-left = λ k l. g .own-left k (omega arith);
@@ -129,45 +124,59 @@ module _ (own : ℕ) (left right : List ℕ) (total : ℕ) where
   pub moved-longer : (left2 right2 : List ℕ) (to c : ℕ) → Moved own left right total left2 right2 to c → Longer own left right total left2 right2 to
   moved-longer left2 right2 to c w = record { own-left = w .own-left; own-right = w .own-right; enough = w .begun; follows = w .follow }
 
+-- ---- rows kept
+
+module _ (left right : List ℕ) (count : ℕ) where
+  pub kept-none : (kept : List ℕ) → Kept left right count kept 0
+  kept-none kept m h i l = absurd (omega arith)
+
+  -- One row more, which is true wherever the table is.
+  pub kept-more : (kept kept1 kept2 : List ℕ) (k l r : ℕ) → Kept left right count kept k → RowSet kept (2 * k) l kept1 → RowSet kept1 (2 * k + 1) r kept2
+      → 2 * k + 1 < rowCount kept → ((m : ℕ) → AllHold left right count m → Holds l r m) → Kept left right count kept2 (k + 1)
+  kept-more kept kept1 kept2 k l r f a b room row m h i lt = elim (ℕ-discrete i k) [
+    | yes e ↦ rw (e, b .others (2 * k) (λ d. omega arith) ∙ a .written (omega arith), b .written (omega (arith, same-rows kept1 kept (a .size)))) (row m h)
+    | no e ↦
+        rw (b .others (2 * i) (λ d. omega arith) ∙ a .others (2 * i) (λ d. omega arith), b .others (2 * i + 1) (λ d. omega arith) ∙ a .others (2 * i + 1) (λ d. omega arith))
+        (f m h i (omega arith))
+  ]
+
+  -- The table grows by a row.
+  pub kept-grown : (kept : List ℕ) (k : ℕ) (left2 right2 : List ℕ) (l r : ℕ) → RowSet left count l left2 → RowSet right count r right2
+      → Kept left right count kept k → Kept left2 right2 (count + 1) kept k
+  kept-grown kept k left2 right2 l r a b f m h =
+      f m (rows-same left2 right2 left right count (count + 1) (omega arith) (λ i lt. sym (a .others i (λ d. omega arith))) (λ i lt. sym (b .others i (λ d. omega arith))) m h)
+
 -- ---- the longer table of a question
 
-module _ (left right : List ℕ) (count : ℕ) (keptLeft keptRight : List ℕ) (kept : ℕ) where
+module _ (left right : List ℕ) (count : ℕ) (kept : List ℕ) (k : ℕ) where
   -- There is no room: no row is told of.
-  pub filled-none : (left2 right2 : List ℕ) → 0 < count → Filled left right count keptLeft keptRight kept left2 right2 0
+  pub filled-none : (left2 right2 : List ℕ) → 0 < count → Filled left right count kept k left2 right2 0
   filled-none left2 right2 e = record { own-left = λ l. absurd (omega arith); own-right = λ l. absurd (omega arith); follows = λ f. follow-none left right count left2 right2 }
 
-  -- A side of the rows, written in two parts.
-  module _ (from keptFrom before mid after : List ℕ) (more : ℕ) (a : RowsSet before 0 from count mid) (b : RowsSet mid count keptFrom more after) (room : count + more ≤ rowCount before) where
-    first-part : (k : ℕ) → k < count → rowOf after k ≡ rowOf from k
-    first-part k l = b .others k (λ i h e. omega arith) ∙ rows-first before from mid count a k l (omega arith)
+  -- The table alone.
+  pub filled-own : (left0 right0 left2 right2 : List ℕ) → RowsSet left0 0 left count left2 → RowsSet right0 0 right count right2
+      → count ≤ rowCount left0 → count ≤ rowCount right0 → Filled left right count kept k left2 right2 count
+  filled-own left0 right0 left2 right2 a b roomLeft roomRight =
+      let own-left : (i : ℕ) → i < count → rowOf left2 i ≡ rowOf left i = λ i l. rows-first left0 left left2 count a i l (omega arith) in
+      let own-right : (i : ℕ) → i < count → rowOf right2 i ≡ rowOf right i = λ i l. rows-first right0 right right2 count b i l (omega arith) in
+      record { own-left = λ l. own-left; own-right = λ l. own-right; follows = λ f. rows-same left right left2 right2 count count (le-refl _) own-left own-right }
 
-    second-part : (i : ℕ) → i < more → rowOf after (count + i) ≡ rowOf keptFrom i
-    second-part i l = b .written i l (omega (arith, same-rows mid before (a .size)))
-
-  module _ (left0 left1 left2 right0 right1 right2 : List ℕ) (more : ℕ) (e : more ≤ kept) (roomLeft : count + more ≤ rowCount left0) (roomRight : count + more ≤ rowCount right0)
-      (a : RowsSet left0 0 left count left1) (b : RowsSet right0 0 right count right1) (c : RowsSet left1 count keptLeft more left2) (d : RowsSet right1 count keptRight more right2) where
-    pub filled-both : Filled left right count keptLeft keptRight kept left2 right2 (count + more)
-    filled-both = record {
-      own-left = λ l. first-part left keptLeft left0 left1 left2 more a c roomLeft;
-      own-right = λ l. first-part right keptRight right0 right1 right2 more b d roomRight;
-      follows = λ f m h k l. elim (decLt k count) [
-        | yes n ↦ row-same left right left2 right2 k k m (first-part left keptLeft left0 left1 left2 more a c roomLeft k n) (first-part right keptRight right0 right1 right2 more b d roomRight k n) (h k n)
-        | no n ↦
-            let at : count + (k - count) ≡ k = omega arith in
-            let small : k - count < more = omega arith in
-            row-same keptLeft keptRight left2 right2 (k - count) k m
-            (subst (λ (z : ℕ). rowOf left2 z ≡ rowOf keptLeft (k - count)) at (second-part left keptLeft left0 left1 left2 more a c roomLeft (k - count) small))
-            (subst (λ (z : ℕ). rowOf right2 z ≡ rowOf keptRight (k - count)) at (second-part right keptRight right0 right1 right2 more b d roomRight (k - count) small))
-            (f m h (k - count) (omega arith))
-      ];
-    }
+  -- One row kept more.
+  pub filled-more : (left1 right1 left2 right2 : List ℕ) (i l r : ℕ) → Filled left right count kept k left1 right1 (count + i) → i < k
+      → RowSet left1 (count + i) l left2 → RowSet right1 (count + i) r right2 → l ≡ rowOf kept (2 * i) → r ≡ rowOf kept (2 * i + 1)
+      → count + i < rowCount left1 → count + i < rowCount right1 → Filled left right count kept k left2 right2 (count + i + 1)
+  filled-more left1 right1 left2 right2 i l r w lt a b el er roomLeft roomRight = record {
+    own-left = λ e j h. a .others j (λ d. omega arith) ∙ w .own-left (omega arith) j h;
+    own-right = λ e j h. b .others j (λ d. omega arith) ∙ w .own-right (omega arith) j h;
+    follows = λ f. follow-more left right count left1 right1 left2 right2 (count + i) l r (w .follows f) a b roomLeft roomRight (λ m h. rw (el, er) (f m h i lt));
+  }
 
   -- Filled, and then longer: it says what the table says.
-  module _ (left1 right1 left2 right2 : List ℕ) (total total2 : ℕ) (w : Filled left right count keptLeft keptRight kept left1 right1 total) (e : count ≤ total)
+  module _ (left1 right1 left2 right2 : List ℕ) (total total2 : ℕ) (w : Filled left right count kept k left1 right1 total) (e : count ≤ total)
       (g : Longer count left1 right1 total left2 right2 total2) where
-    pub filled-to : Follow left right count keptLeft keptRight kept → Follow left right count left2 right2 total2
+    pub filled-to : Kept left right count kept k → Follow left right count left2 right2 total2
     filled-to f m h = g .follows m (w .follows f m h)
 
     pub filled-from : Follow left2 right2 total2 left right count
     filled-from = rows-same left2 right2 left right count total2 (g .enough)
-        (λ k l. sym (g .own-left k l ∙ w .own-left e k l)) (λ k l. sym (g .own-right k l ∙ w .own-right e k l))
+        (λ i l. sym (g .own-left i l ∙ w .own-left e i l)) (λ i l. sym (g .own-right i l ∙ w .own-right e i l))

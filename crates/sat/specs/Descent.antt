@@ -76,8 +76,3 @@ abbrev pub Steps : (ℕ → Type 0) → Partial → Step → Type 0
 Steps P p (step.Least s) = Settles P p (Countered s)
 Steps P p step.Blocked = NoModel P p
 Steps P p (step.Split q t) = Cut P p q (num t)
-
--- Yes where there is no model of what is known; no where there is one.
-pub record Decides (P : ℕ → Type 0) (p : Partial) (r : Bool) : Type 0 where
-  pub yes-none : r ≡ true → NoModel P p
-  pub no-some : r ≡ false → (m : ℕ) × Model P (num (p .has)) (num (p .lacks)) m

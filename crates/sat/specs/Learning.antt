@@ -2,14 +2,13 @@
 use mathlib.Core.Bool.{Bool}
 use mathlib.Core.List.{List}
 use mathlib.Core.Path.{_≡_}
-use Prim.Native.Nat.{ℕ, _+_, _≤_, _<_}
+use Prim.Native.Nat.{ℕ, _+_, _*_, _≤_, _<_}
 use lib.ListN.{length}
 use Rattle.atoms.specs.Words.{num, rowOf, rowCount}
 use Rattle.sat.specs.Table.{Holds, AllHold}
-use Rattle.sat.specs.Descent.{Told, Decides}
+use Rattle.sat.specs.Descent.{Told}
+use Rattle.sat.specs.declared.Asked.{Asked}
 use Rattle.sat.specs.declared.Partial.{Partial}
-use Rattle.sat.specs.declared.Proof.{Proof}
-use Rattle.sat.specs.declared.longer.Settled.{Settled}
 use Rattle.sat.specs.declared.learning.End.{End}
 use Rattle.sat.specs.declared.learning.End.the-variants.{Conflict, Learned, Model, Full}
 use Rattle.sat.specs.declared.learning.Outcome.{Outcome}
@@ -45,11 +44,19 @@ EndFollows left right total Full = Unit {0}
 abbrev pub Explored : List ℕ → List ℕ → ℕ → List ℕ → List ℕ → Outcome → Type 0
 Explored left right total left2 right2 r = Longer total left right total left2 right2 (r .total) × EndFollows left2 right2 (r .total) (r .end)
 
+-- The first k rows kept in one table, the left and the right side of each in turn, are true at m.
+abbrev pub KeptHold : List ℕ → ℕ → ℕ → Type 0
+KeptHold kept k m = (i : ℕ) → i < k → Holds (rowOf kept (2 * i)) (rowOf kept (2 * i + 1)) m
+
+-- They are true wherever the rows of a table are.
+abbrev pub Kept : List ℕ → List ℕ → ℕ → List ℕ → ℕ → Type 0
+Kept left right count kept k = (m : ℕ) → AllHold left right count m → KeptHold kept k m
+
 -- The table stands first in the longer one, where there is room for it, and where the rows kept follow from it, so does the longer one.
-pub record Filled (left right : List ℕ) (count : ℕ) (keptLeft keptRight : List ℕ) (kept : ℕ) (left2 right2 : List ℕ) (total : ℕ) : Type 0 where
-  pub own-left : count ≤ total → (k : ℕ) → k < count → rowOf left2 k ≡ rowOf left k
-  pub own-right : count ≤ total → (k : ℕ) → k < count → rowOf right2 k ≡ rowOf right k
-  pub follows : Follow left right count keptLeft keptRight kept → Follow left right count left2 right2 total
+pub record Filled (left right : List ℕ) (count : ℕ) (kept : List ℕ) (k : ℕ) (left2 right2 : List ℕ) (total : ℕ) : Type 0 where
+  pub own-left : count ≤ total → (i : ℕ) → i < count → rowOf left2 i ≡ rowOf left i
+  pub own-right : count ≤ total → (i : ℕ) → i < count → rowOf right2 i ≡ rowOf right i
+  pub follows : Kept left right count kept k → Follow left right count left2 right2 total
 
 -- Rows are moved down: those before c were passed, some of them stand before `to`, and those from c on stand where they stood.
 pub record Moved (own : ℕ) (left right : List ℕ) (total : ℕ) (left2 right2 : List ℕ) (to c : ℕ) : Type 0 where
@@ -70,13 +77,6 @@ Passes left right total to c left2 right2 to2 =
     → Moved own left0 right0 total left2 right2 to2 (c + 1)
 
 -- Where the rows kept follow from the table, the answer is right, and the rows then kept follow too.
-abbrev pub ToldKeeping : List ℕ → List ℕ → ℕ → Partial → Bool → List ℕ → List ℕ → ℕ → List ℕ → List ℕ → Settled → Type 0
-ToldKeeping left right count p smallest keptLeft keptRight kept keptLeft2 keptRight2 r =
-    Follow left right count keptLeft keptRight kept
-    → Told (AllHold left right count) p smallest (r .answer) × Follow left right count keptLeft2 keptRight2 (r .kept)
-
--- The same with yes or no for its answer.
-abbrev pub DecidesKeeping : List ℕ → List ℕ → ℕ → Partial → List ℕ → List ℕ → ℕ → List ℕ → List ℕ → Proof → Type 0
-DecidesKeeping left right count p keptLeft keptRight kept keptLeft2 keptRight2 r =
-    Follow left right count keptLeft keptRight kept
-    → Decides (AllHold left right count) p (r .proved) × Follow left right count keptLeft2 keptRight2 (r .kept)
+abbrev pub ToldKeeping : List ℕ → List ℕ → ℕ → Partial → Bool → List ℕ → ℕ → List ℕ → Asked → Type 0
+ToldKeeping left right count p smallest kept k kept2 r =
+    Kept left right count kept k → Told (AllHold left right count) p smallest (r .answer) × Kept left right count kept2 (r .kept)

@@ -5,8 +5,9 @@ ghost use Prim.Native.Nat.{min};
 ghost use Rattle.atoms.specs.Sets.{limit};
 ghost use Rattle.atoms.specs.Words.{num};
 ghost use Rattle.ipl.specs.Question.{ask};
+ghost use Rattle.ipl.specs.Search.{isNone};
 ghost use Rattle.sat.specs.Table.{clauses};
-ghost use Rattle.sat.specs.Answer.{answerOf, ProvedKeeping};
+ghost use Rattle.sat.specs.Answer.{answerOf, Attempted, AskedKeeping, ProvedKeeping};
 ghost use Rattle.sat.specs.Descent.{Base};
 
 mod known;
@@ -33,6 +34,18 @@ pub enum Answer {
     Countered(AtomSet),
 }
 
+// An answer, or the start of a search that gave up.
+enum First {
+    Answered(Answer),
+    GaveUp(Partial),
+}
+
+// The answer, and how many rows are then kept.
+pub struct Asked {
+    pub answer: Answer,
+    pub kept: usize,
+}
+
 // Whether it is proved, and how many rows are then kept.
 pub struct Proof {
     pub proved: bool,
@@ -50,6 +63,41 @@ fn countering(n: u8, given: AtomSet, asked: u8) -> Partial
     }
 }
 
+// The answer of a search that meets few conflicts; else what a model that counters must have and lack.
+fn attempt<'a>(
+    left: &'a [u64],
+    right: &'a [u64],
+    count: usize,
+    n: u8,
+    given: AtomSet,
+    asked: u8,
+) -> First
+    ensures { λ r. ⌜ Attempted n (num given) asked (ask (min n limit) (clauses (now (left .entry)) (now (right .entry)) count) (num given) asked) r ⌝ }
+{
+    let base = countering(n, given, asked);
+    let lacked = base.lacks;
+    if given.meets(lacked) {
+        return First::Answered(Answer::Proved);
+    }
+    given.bounded();
+    lacked.bounded();
+    match search::least(left, right, count, base, PATIENCE) {
+        Found::Least(m) => First::Answered(Answer::Countered(m)),
+        Found::Blocked(_) => First::Answered(Answer::Proved),
+        Found::GaveUp => First::GaveUp(base),
+    }
+}
+
+// Whether the answer is yes.
+fn is_yes(answer: Answer) -> bool
+    ensures { λ r. ⌜ r ≡ isNone (answerOf answer) ⌝ }
+{
+    match answer {
+        Answer::Proved => true,
+        Answer::Countered(_) => false,
+    }
+}
+
 // Do the first `count` clauses of the table, over atoms below n, and the atoms `given` prove the atom `asked`? ⊥ is `ipl::BOTTOM`.
 pub fn ask<'a>(
     left: &'a [u64],
@@ -61,22 +109,34 @@ pub fn ask<'a>(
 ) -> Answer
     ensures { λ r. ⌜ answerOf r ≡ ask (min n limit) (clauses (now (left .entry)) (now (right .entry)) count) (num given) asked ⌝ }
 {
-    let base = countering(n, given, asked);
-    let lacked = base.lacks;
-    if given.meets(lacked) {
-        return Answer::Proved;
-    }
-    given.bounded();
-    lacked.bounded();
-    match search::least(left, right, count, base, PATIENCE) {
-        Found::Least(m) => Answer::Countered(m),
-        Found::Blocked(_) => Answer::Proved,
-        Found::GaveUp => longer::ask(left, right, count, base),
+    let mut kept = [0u64; 2 * atoms::WORDS];
+    let r = ask_keeping(left, right, count, n, given, asked, &mut kept, 0);
+    let answer = r.answer;
+    answer
+}
+
+// The same question. The first `rows` rows kept in the table lent, each in two of its rows, are taken for rows that follow from the
+// clauses; where they do, so do those that it keeps then, as many as is said.
+pub fn ask_keeping<'a>(
+    left: &'a [u64],
+    right: &'a [u64],
+    count: usize,
+    n: u8,
+    given: AtomSet,
+    asked: u8,
+    kept: &mut [u64],
+    rows: usize,
+) -> Asked
+    ensures { λ r. ⌜ AskedKeeping (now (left .entry)) (now (right .entry)) count (now (kept .entry)) rows
+        (ask (min n limit) (clauses (now (left .entry)) (now (right .entry)) count) (num given) asked) (now (kept .exit)) r ⌝ }
+{
+    match attempt(left, right, count, n, given, asked) {
+        First::Answered(answer) => Asked { answer, kept: rows },
+        First::GaveUp(base) => longer::settle(left, right, count, base, true, kept, rows),
     }
 }
 
-// The same question, answered by yes or no. The first `kept` rows of the tables lent are taken for rows that follow from the table;
-// where they do, so do those that they hold then, as many as is said.
+// The same question, answered by yes or no.
 pub fn proves<'a>(
     left: &'a [u64],
     right: &'a [u64],
@@ -84,27 +144,24 @@ pub fn proves<'a>(
     n: u8,
     given: AtomSet,
     asked: u8,
-    kept_left: &mut [u64],
-    kept_right: &mut [u64],
-    kept: usize,
+    kept: &mut [u64],
+    rows: usize,
 ) -> Proof
-    ensures { λ r. ⌜ ProvedKeeping (now (left .entry)) (now (right .entry)) count (now («kept_left» .entry)) (now («kept_right» .entry)) kept
-        (ask (min n limit) (clauses (now (left .entry)) (now (right .entry)) count) (num given) asked)
-        (now («kept_left» .exit)) (now («kept_right» .exit)) r ⌝ }
+    ensures { λ r. ⌜ ProvedKeeping (now (left .entry)) (now (right .entry)) count (now (kept .entry)) rows
+        (ask (min n limit) (clauses (now (left .entry)) (now (right .entry)) count) (num given) asked) (now (kept .exit)) r ⌝ }
 {
-    let base = countering(n, given, asked);
-    let lacked = base.lacks;
-    if given.meets(lacked) {
-        return Proof { proved: true, kept };
-    }
-    given.bounded();
-    lacked.bounded();
-    match search::least(left, right, count, base, PATIENCE) {
-        Found::Least(_) => Proof {
-            proved: false,
-            kept,
+    match attempt(left, right, count, n, given, asked) {
+        First::Answered(answer) => Proof {
+            proved: is_yes(answer),
+            kept: rows,
         },
-        Found::Blocked(_) => Proof { proved: true, kept },
-        Found::GaveUp => longer::proves(left, right, count, base, kept_left, kept_right, kept),
+        First::GaveUp(base) => {
+            let r = longer::settle(left, right, count, base, false, kept, rows);
+            let answer = r.answer;
+            Proof {
+                proved: is_yes(answer),
+                kept: r.kept,
+            }
+        }
     }
 }

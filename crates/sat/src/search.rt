@@ -11,7 +11,7 @@ ghost use Rattle.sat.specs.Knowledge.{Fair};
 ghost use Rattle.sat.specs.Descent.{Answers, Spent, Steps, Settles};
 
 // A number of conflicts that is never used up.
-pub const NO_LIMIT: u64 = 0xffff_ffff_ffff_ffff;
+const NO_LIMIT: u64 = 0xffff_ffff_ffff_ffff;
 
 // The smallest model; that there is none, and how many conflicts may still be met; or that too many were met.
 pub enum Found {

@@ -1,54 +1,127 @@
--- Two parts are written, or none.
+-- The table is copied, then each row kept.
 use borrow.Author.Needs.{needs}
 use native.Mathlib.Omega.{arith}
-use Rattle.sat.proofs.Rows.{filled-none, filled-both}
+use lib.ListN.{length}
+use mathlib.Core.Path.{_≡_, refl, _∙_, subst}
+use Prim.Native.Nat.{_+_, _*_, _-_, _^_, _≤_, _<_}
+use Rattle.atoms.specs.Words.{rowCount}
+use Rattle.sat.specs.Learning.{Filled}
+use Rattle.sat.proofs.Rows.{filled-none, filled-own, filled-more}
 use Rattle.sat.proofs.longer.fill.Statement.{statement}
 use Rattle.sat.proofs.longer.fill.Tie as tie
 
-returns : tie.Need-returns
-returns c = filled-none _ _ _ _ _ _ _ _ (omega arith)
+abbrev Inv-loop : tie.InvT-loop
+Inv-loop left right count kept rows long-left₀ long-right₀ room more i₀ long-left long-right i =
+    (length long-left ≡ length long-left₀) × (length long-right ≡ length long-right₀) × Filled left right count kept rows long-left long-right (count + i)
+    × (i ≤ more) × (more ≤ rows) × (2 * more < 2 ^ 64) × (count + more ≤ rowCount long-left₀) × (count + more ≤ rowCount long-right₀)
 
-returns-2 : tie.Need-returns-2
-returns-2 c = filled-none _ _ _ _ _ _ _ _ (omega arith)
+abbrev μ-loop : tie.MeasureT-loop
+μ-loop left right count kept rows long-left₀ long-right₀ room more i₀ long-left long-right i = more - i
 
-returns-3 : tie.Need-returns-3
-returns-3 c =
-    let d = c .before .before in
-    let e = d .before .before .before .before in
-    let f = e .before .before .before .before in
-    let g = f .before .before .before .before in
-    let more = g .before .before in
-    let room = more .before in
-    let right = room .before in
-    let left = right .before .before in
-    let fits = left .before .before in
-    filled-both _ _ _ _ _ _ _ _ _ _ _ _ _ (more .fewer2 .ensures .0)
-    (omega (arith, more .fewer2 .ensures .1, room .fewer .ensures .0, left .rows3 .ensures, fits .before .before .before .if1 .left, fits .before .before .before .before .rows .ensures))
-    (omega (arith, more .fewer2 .ensures .1, room .fewer .ensures .1, right .rows4 .ensures, fits .if2 .left, fits .before .rows2 .ensures))
-    (g .copy-rows .ensures) (f .copy-rows2 .ensures) (e .copy-rows3 .ensures) (d .copy-rows4 .ensures)
+returns : tie.Need-returns Inv-loop μ-loop
+returns c = filled-none _ _ _ _ _ _ _ (omega arith)
+
+loop-holds : tie.Need-loop-holds Inv-loop μ-loop
+unfolding rowCount
+loop-holds c =
+    let right = c .before .before .before .before .before in
+    let left = right .before .before .before .before in
+    let room = left .before .before .before in (
+      refl,
+      refl,
+      subst (Filled _ _ _ _ _ _ _) (omega arith)
+          (filled-own _ _ _ _ _ _ _ _ _ (left .copy-rows .ensures) (right .copy-rows2 .ensures)
+          (omega (arith, room .fewer .ensures .0)) (omega (arith, room .fewer .ensures .1))),
+      omega arith,
+      omega (arith, c .fewer3 .ensures .0, c .before .fewer2 .ensures .0),
+      omega (arith, c .fewer3 .ensures .0, c .before .fewer2 .ensures .1),
+      omega (arith, c .fewer3 .ensures .1, left .copy-rows .ensures .size, room .fewer .ensures .0),
+      omega (arith, c .fewer3 .ensures .1, right .copy-rows2 .ensures .size, room .fewer .ensures .1),
+    )
+
+add-set-row : tie.Need-add-set-row Inv-loop μ-loop
+add-set-row c = omega arith
+
+mul-row : tie.Need-mul-row Inv-loop μ-loop
+mul-row c = omega arith
+
+add-set-row-2 : tie.Need-add-set-row-2 Inv-loop μ-loop
+add-set-row-2 c = omega arith
+
+mul-row-2 : tie.Need-mul-row-2 Inv-loop μ-loop
+mul-row-2 c = omega arith
+
+add-row : tie.Need-add-row Inv-loop μ-loop
+add-row c = omega arith
+
+add-i : tie.Need-add-i Inv-loop μ-loop
+add-i c = omega arith
+
+loop-less : tie.Need-loop-less Inv-loop μ-loop
+loop-less c = omega arith
+
+loop-again : tie.Need-loop-again Inv-loop μ-loop
+unfolding rowCount
+loop-again c =
+    let right = c .before .before in
+    let left = right .before .before .before .before .before in
+    let at = left .before .before .before .before in
+    let inv = at .loop .inv in (
+      left .set-row .ensures .size ∙ inv .0,
+      right .set-row2 .ensures .size ∙ inv .1,
+      subst (Filled _ _ _ _ _ _ _) (omega arith)
+          (filled-more _ _ _ _ _ _ _ _ _ _ _ _ (inv .2) (omega arith) (left .set-row .ensures) (right .set-row2 .ensures) (left .before .row .ensures) (right .before .row2 .ensures)
+          (omega (arith, inv .0, inv .6)) (omega (arith, inv .1, inv .7))),
+      omega arith,
+      inv .4,
+      inv .5,
+      inv .6,
+      inv .7,
+    )
+
+add-result : tie.Need-add-result Inv-loop μ-loop
+add-result c = omega arith
+
+same-length-3 : tie.Need-same-length-3 Inv-loop μ-loop
+same-length-3 c = c .before .loop .inv .0 ∙ c .before .before .before .before .before .before .before .before .before .before .before .copy-rows .ensures .size
+
+same-length-4 : tie.Need-same-length-4 Inv-loop μ-loop
+same-length-4 c = c .before .loop .inv .1 ∙ c .before .before .before .before .before .before .before .copy-rows2 .ensures .size
+
+returns-2 : tie.Need-returns-2 Inv-loop μ-loop
+returns-2 c = c .before .loop .inv .2
 
 pub fill-spec : {M : Type 1} → statement M
 fill-spec =
     tie.close
     (tie.spec
+    Inv-loop
+    μ-loop
     (λ c κs. search needs)
+    (λ c κs. search needs)
+    (λ c κs. search needs)
+    (λ c. search needs)
     (λ c. search needs)
     returns
     (λ c κs. search needs)
-    (λ c. search needs)
-    (λ c. search needs)
-    returns-2
-    (λ c κs. search needs)
-    (λ c. search needs)
-    (λ c κs. search needs)
-    (λ c. search needs)
     (λ c κs. search needs)
     (λ c κs. search needs)
     (λ c κs. search needs)
     (λ c κs. search needs)
+    loop-holds
+    add-set-row
+    mul-row
     (λ c κs. search needs)
     (λ c κs. search needs)
-    (λ c. search needs)
-    (λ c. search needs)
-    (λ c. search needs)
-    returns-3)
+    add-set-row-2
+    mul-row-2
+    add-row
+    (λ c κs. search needs)
+    (λ c κs. search needs)
+    add-i
+    loop-less
+    loop-again
+    add-result
+    same-length-3
+    same-length-4
+    returns-2)

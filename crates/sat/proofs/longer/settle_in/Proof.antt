@@ -11,12 +11,12 @@ returns c f = (settles-told _ _ _ (c .settle .result) (c .settle .ensures), f)
 
 returns-2 : tie.Need-returns-2
 returns-2 c f =
-    let kept = c .before .before .before .before in
-    let told = kept .before .before .before .before .before in
+    let kept = c .before .before in
+    let told = kept .before .before .before .before in
     let learned = told .before .before .before .before .before .before .before in
     let filled = learned .before .before .before .before .before .before .before .before in
-    let to = filled-to _ _ _ _ _ _ _ _ _ _ _ _ (filled .fill .ensures) (omega arith) (learned .learn .ensures) f in (
-      told-same _ _ (filled-from _ _ _ _ _ _ _ _ _ _ _ _ (filled .fill .ensures) (omega arith) (learned .learn .ensures)) to _ _ (told .tell .result) (told .tell .ensures),
+    let to = filled-to _ _ _ _ _ _ _ _ _ _ _ (filled .fill .ensures) (omega arith) (learned .learn .ensures) f in (
+      told-same _ _ (filled-from _ _ _ _ _ _ _ _ _ _ _ (filled .fill .ensures) (omega arith) (learned .learn .ensures)) to _ _ (told .tell .result) (told .tell .ensures),
       λ m h. kept .keep .ensures m (to m h),
     )
 
@@ -29,12 +29,10 @@ settle-in-spec =
     (λ c. search needs)
     (λ c. search needs)
     (λ c. search needs)
-    (λ c. search needs)
     returns
     (λ c κs. search needs)
     (λ c κs. search needs)
     (λ c κs. search needs)
-    (λ c. search needs)
     (λ c. search needs)
     (λ c. search needs)
     (λ c. search needs)
