@@ -153,7 +153,7 @@ module _ (s : Session) where
     -- The working tables at the start.
     pub fresh : (t : Tables) → Prepared s t → (left2 right2 : List ℕ) → KnownWritten (t .left) (t .right) (s .flats) (s .steps) (s .implications) left2 right2
         → Fresh (s .implications) (tables left2 right2 (t .numbers) (t .assumed) (t .sets))
-        (record { flats = s .flats .count; steps = s .steps .count; worlds = 0; questions = 0; pair = firstPair })
+        (record { flats = s .flats .count; steps = s .steps .count; worlds = 0; questions = 0; pair = firstPair; kept = 0 })
     fresh t p left2 right2 k = record {
       working = record {
         left-rows = same-rows left2 (t .left) (k .left-size) ∙ p .left-rows;

@@ -25,10 +25,11 @@ use Rattle.ipl.specs.Search.{Step, clauseOf, known, firstUnrealized, dropFrom, 
 use Rattle.ipl.proofs.Lists.{tabulate-length, tabulate-same, any-left, tabulate-more}
 use Rattle.ipl.proofs.Range.{ImplicationBelow, implication-below}
 use Rattle.ipl.proofs.Steps.{known-snoc}
+use Rattle.sat.specs.Learning.{Kept}
 use Rattle.sat.specs.Table.{clauseAt, clauses}
 use Rattle.prover.specs.State.{byteAt, implicationRow, implicationsOf}
 use Rattle.prover.specs.Working.{FirstAtoms, Usable, firstPair, realizedAt, Passed, NextPair, proves, learnedRow}
-use Rattle.prover.specs.Search.{Tables, tables, flatsIn, knownIn, stepIn, stepsIn, worldsIn, stateOf, Working, Began, Grew, StepJoined, Learned, TurnRight}
+use Rattle.prover.specs.Search.{Tables, tables, flatsIn, knownIn, stepIn, stepsIn, worldsIn, stateOf, Working, KeepsOn, Began, Grew, StepJoined, Learned, TurnRight}
 use Rattle.prover.specs.declared.Implications.{Implications}
 use Rattle.prover.specs.declared.realization.Pair.{Pair}
 use Rattle.prover.specs.declared.question.Progress.{Progress}
@@ -52,6 +53,14 @@ clauses-same left right left2 right2 k hl hr =
 
 pub first-atoms : {n : ℕ} {x : Implications} → Usable n x → FirstAtoms x
 first-atoms {n} {x} u i h = omega (arith, implication-below n (implicationRow x i) (u .rows i h) .a, u .few)
+
+-- A world more leaves the rows kept as they are.
+pub grow-keeps : (left right kept sets sets2 : List ℕ) (p : Progress) (pair : Pair) (m k : ℕ) (r : Turned) → Grew sets p pair m k sets2 r
+    → Kept left right (p .flats + p .steps) kept k → KeepsOn left right kept r
+grow-keeps left right kept sets sets2 p pair m k turned.Valid h f = tt
+grow-keeps left right kept sets sets2 p pair m k turned.Refuted h f = tt
+grow-keeps left right kept sets sets2 p pair m k (turned.Full j) h f = tt
+grow-keeps left right kept sets sets2 p pair m k (turned.More q) h f = rw (h .2) f
 
 module _ {n : ℕ} (g : ℕ) {x : Implications} (u : Usable n x) {t : Tables} {p : Progress} (w : Working x t p) where
   -- The question over the clauses known, as the code puts it.
@@ -93,7 +102,7 @@ module _ {n : ℕ} (g : ℕ) {x : Implications} (u : Usable n x) {t : Tables} {p
             ∙ ap₂ (λ (m k : ℕ). more (record { steps = stepsIn t p; worlds = m ∷ []; questions = k })) (sym (h .2 .written (omega (arith, w .set-rows)))) (sym (add-one (p .questions)))
 
         joined : Working x (withSets t sets2)
-            (record { flats = p .flats; steps = p .steps; worlds = 1; questions = p .questions + 1; pair = firstPair })
+            (record { flats = p .flats; steps = p .steps; worlds = 1; questions = p .questions + 1; pair = firstPair; kept = q .kept })
         joined = record {
           left-rows = w .left-rows;
           right-rows = w .right-rows;
@@ -175,7 +184,7 @@ module _ {n : ℕ} (g : ℕ) {x : Implications} (u : Usable n x) {t : Tables} {p
               ap (goOn rest) grown
               ∙ rw (lt-ltb worldTable (length (worldsIn t p ++ (m ∷ []))) (omega (arith, length-append (worldsIn t p) (m ∷ []), tabulate-length (rowOf (t .sets)) (p .worlds))))
 
-          module _ (sets2 : List ℕ) (room : p .worlds < worldTable) (r : RowSet (t .sets) (p .worlds) m sets2) where
+          module _ (sets2 : List ℕ) (kept : ℕ) (room : p .worlds < worldTable) (r : RowSet (t .sets) (p .worlds) m sets2) where
             worlds-more : tabulate (rowOf sets2) (p .worlds + 1) ≡ worldsIn t p ++ (m ∷ [])
             worlds-more = tabulate-more (rowOf (t .sets)) (rowOf sets2) m (p .worlds) (λ i h. r .others i (λ d. omega arith)) (r .written (omega (arith, w .set-rows)))
 
@@ -192,7 +201,7 @@ module _ {n : ℕ} (g : ℕ) {x : Implications} (u : Usable n x) {t : Tables} {p
                 ])
 
             grown-working : Working x (withSets t sets2)
-                (record { flats = p .flats; steps = p .steps; worlds = p .worlds + 1; questions = p .questions + 1; pair = q })
+                (record { flats = p .flats; steps = p .steps; worlds = p .worlds + 1; questions = p .questions + 1; pair = q; kept = kept })
             grown-working = record {
               left-rows = w .left-rows;
               right-rows = w .right-rows;
@@ -211,15 +220,15 @@ module _ {n : ℕ} (g : ℕ) {x : Implications} (u : Usable n x) {t : Tables} {p
               };
             }
 
-          pub grow-right : (sets2 : List ℕ) (r : Turned) → Grew (t .sets) p q m sets2 r
+          pub grow-right : (kept : ℕ) (sets2 : List ℕ) (r : Turned) → Grew (t .sets) p q m kept sets2 r
               → TurnRight n g x t p (withSets t sets2) r
-          grow-right sets2 turned.Valid h = absurd h
-          grow-right sets2 turned.Refuted h = absurd h
-          grow-right sets2 (turned.Full k) h = λ rest. grown-full (h .1) rest ∙ ap refused (sym (h .0))
-          grow-right sets2 (turned.More k) h =
+          grow-right kept sets2 turned.Valid h = absurd h
+          grow-right kept sets2 turned.Refuted h = absurd h
+          grow-right kept sets2 (turned.Full k) h = λ rest. grown-full (h .1) rest ∙ ap refused (sym (h .0))
+          grow-right kept sets2 (turned.More k) h =
               rw (h .2) (
-                grown ∙ ap₂ (λ (W : List ℕ) (c : ℕ). more (record { steps = stepsIn t p; worlds = W; questions = c })) (sym (worlds-more sets2 (h .0) (h .1))) (sym (add-one (p .questions))),
-                grown-working sets2 (h .0) (h .1),
+                grown ∙ ap₂ (λ (W : List ℕ) (c : ℕ). more (record { steps = stepsIn t p; worlds = W; questions = c })) (sym (worlds-more sets2 kept (h .0) (h .1))) (sym (add-one (p .questions))),
+                grown-working sets2 kept (h .0) (h .1),
                 refl,
                 refl,
               )
@@ -273,7 +282,7 @@ module _ {n : ℕ} (g : ℕ) {x : Implications} (u : Usable n x) {t : Tables} {p
                 ∙ sym (known-snoc (flatsIn t p) (implicationsOf x) (stepsIn t p) step)
                 ∙ sym (ap₂ (λ (F : List Flat) (S : List Step). known F (implicationsOf x) S) flats-stay steps-more)
 
-            learnt-working : Working x t2 (record { flats = p .flats; steps = p .steps + 1; worlds = 0; questions = p .questions + 1; pair = firstPair })
+            learnt-working : Working x t2 (record { flats = p .flats; steps = p .steps + 1; worlds = 0; questions = p .questions + 1; pair = firstPair; kept = k .kept })
             learnt-working = record {
               left-rows = same-rows (t2 .left) (t .left) (j .left .size) ∙ w .left-rows;
               right-rows = same-rows (t2 .right) (t .right) (j .right .size) ∙ w .right-rows;

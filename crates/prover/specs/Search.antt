@@ -11,6 +11,7 @@ use Rattle.ipl.specs.Clause.{Flat}
 use Rattle.ipl.specs.Range.{flatTable, implicationTable, stepTable, worldTable}
 use Rattle.ipl.specs.Question.{ask}
 use Rattle.ipl.specs.Search.{Step, known, dropFrom, State, Outcome, valid, refuted, refused, done, more, goOn, mostTurns, turn, run}
+use Rattle.sat.specs.Learning.{Kept}
 use Rattle.sat.specs.Table.{clauses}
 use Rattle.prover.specs.State.{byteAt, implicationsOf}
 use Rattle.prover.specs.Working.{firstPair, Passed, proves, learnedRow}
@@ -69,6 +70,17 @@ pub record Working (x : Implications) (t : Tables) (p : Progress) : Type 0 where
   pub pair-world : p .pair .world ≤ p .worlds
   pub passed : Passed (t .sets) (p .worlds) x (p .pair)
 
+-- The rows kept follow from all clauses known.
+abbrev pub Keeps : List ℕ → List ℕ → Progress → List ℕ → Type 0
+Keeps left right p kept = Kept left right (p .flats + p .steps) kept (p .kept)
+
+-- They do where the search goes on.
+abbrev pub KeepsOn : List ℕ → List ℕ → List ℕ → Turned → Type 0
+KeepsOn left right kept turned.Valid = Unit {0}
+KeepsOn left right kept turned.Refuted = Unit {0}
+KeepsOn left right kept (turned.Full k) = Unit {0}
+KeepsOn left right kept (turned.More q) = Keeps left right q kept
+
 -- Point 1 in the tables.
 abbrev pub Began : List ℕ → List ℕ → List ℕ → ℕ → ℕ → Progress → List ℕ → Turned → Type 0
 Began left right sets n goal p after turned.Valid = (none ≡ ask (min n limit) (clauses left right (p .flats + p .steps)) 0 goal) × (after ≡ sets)
@@ -76,16 +88,16 @@ Began left right sets n goal p after turned.Refuted = ⊥
 Began left right sets n goal p after (turned.Full k) = ⊥
 Began left right sets n goal p after (turned.More q) =
     (m : ℕ) × (some m ≡ ask (min n limit) (clauses left right (p .flats + p .steps)) 0 goal) × RowSet sets 0 m after
-    × (q ≡ record { flats = p .flats; steps = p .steps; worlds = 1; questions = p .questions + 1; pair = firstPair })
+    × (q ≡ record { flats = p .flats; steps = p .steps; worlds = 1; questions = p .questions + 1; pair = firstPair; kept = q .kept })
 
 -- Point 3 in the tables: the world m joins.
-abbrev pub Grew : List ℕ → Progress → Pair → ℕ → List ℕ → Turned → Type 0
-Grew sets p pair m after turned.Valid = ⊥
-Grew sets p pair m after turned.Refuted = ⊥
-Grew sets p pair m after (turned.Full k) = (k ≡ 11) × (worldTable ≤ p .worlds)
-Grew sets p pair m after (turned.More q) =
+abbrev pub Grew : List ℕ → Progress → Pair → ℕ → ℕ → List ℕ → Turned → Type 0
+Grew sets p pair m kept after turned.Valid = ⊥
+Grew sets p pair m kept after turned.Refuted = ⊥
+Grew sets p pair m kept after (turned.Full k) = (k ≡ 11) × (worldTable ≤ p .worlds)
+Grew sets p pair m kept after (turned.More q) =
     (p .worlds < worldTable) × RowSet sets (p .worlds) m after
-    × (q ≡ record { flats = p .flats; steps = p .steps; worlds = p .worlds + 1; questions = p .questions + 1; pair = pair })
+    × (q ≡ record { flats = p .flats; steps = p .steps; worlds = p .worlds + 1; questions = p .questions + 1; pair = pair; kept = kept })
 
 -- What point 4 relies on.
 pub record LearnFits (n i : ℕ) (numbers : List ℕ) (p : Progress) : Type 0 where
@@ -105,7 +117,7 @@ pub record StepJoined (n : ℕ) (x : Implications) (i given : ℕ) (t : Tables) 
   pub left : RowSet (t .left) (p .flats + p .steps) (learnedRow x i A .left) (t2 .left)
   pub right : RowSet (t .right) (p .flats + p .steps) (learnedRow x i A .right) (t2 .right)
   pub sets : t2 .sets ≡ t .sets
-  pub progress : q ≡ record { flats = p .flats; steps = p .steps + 1; worlds = 0; questions = p .questions + 1; pair = firstPair }
+  pub progress : q ≡ record { flats = p .flats; steps = p .steps + 1; worlds = 0; questions = p .questions + 1; pair = firstPair; kept = q .kept }
 
 -- Point 4, or its refusal.
 abbrev pub Learned : ℕ → Implications → ℕ → ℕ → Tables → Progress → Tables → Turned → Type 0

@@ -20,6 +20,9 @@ ghost use Rattle.prover.specs.Calls.{questionNumber, AskedAs};
 ghost use Rattle.prover.specs.Search.{tables, Ended};
 ghost use Rattle.prover.specs.Settling.{whole, Prepared, Concluded, Concluding};
 
+// Rows learned that are kept through the questions of one search.
+const KEPT: usize = 64;
+
 // The answer with a verdict, held in the session s with these steps and worlds, and counted for the author.
 fn with_verdict(
     s: Session,
@@ -58,6 +61,7 @@ fn decide(
     numbers: &mut [u8],
     assumed: &mut [u64],
     sets: &mut [u64],
+    kept: &mut [u64],
     s: Session,
     goal: u8,
 ) -> End
@@ -75,8 +79,20 @@ fn decide(
         worlds: 0,
         questions: 0,
         pair: Pair::FIRST,
+        kept: 0,
     };
-    question::proceed(left, right, numbers, assumed, sets, s.n, goal, x, start)
+    question::proceed(
+        left,
+        right,
+        numbers,
+        assumed,
+        sets,
+        kept,
+        s.n,
+        goal,
+        x,
+        start,
+    )
 }
 
 // The answer that the end of the search gives, with the tables' steps and worlds.
@@ -135,12 +151,14 @@ pub fn settle(s: Session, author: u8, goal: u8) -> Answered
     let mut numbers = steps.numbers;
     let mut assumed = steps.assumed;
     let mut sets = worlds.sets;
+    let mut kept = [0; 2 * KEPT * atoms::WORDS];
     let end = decide(
         &mut left,
         &mut right,
         &mut numbers,
         &mut assumed,
         &mut sets,
+        &mut kept,
         s,
         goal,
     );

@@ -8,119 +8,72 @@ ghost use Prim.Native.Nat.{ℕ, _≤_, _<_};
 ghost use Rattle.atoms.specs.Sets.{limit, minus};
 ghost use Rattle.atoms.specs.Words.{num, singleOrEmpty, RowSet};
 ghost use Rattle.ipl.specs.Search.{dropOne, dropFrom};
-ghost use Rattle.sat.specs.Learning.{Follow};
+ghost use Rattle.sat.specs.Learning.{Kept};
 ghost use Rattle.sat.specs.Table.{clauses};
 ghost use Rattle.prover.specs.Working.{Usable, proves, StepsFit, StepsWritten, KnownWritten};
 
-// Rows learned that are kept while atoms are dropped.
-const KEPT: usize = 64;
-
 // What is left of a set, and how many rows are kept.
-struct Dropped {
-    rest: AtomSet,
-    kept: usize,
+pub struct Dropped {
+    pub rest: AtomSet,
+    pub kept: usize,
 }
 
-// A without the atom k, where the rest still proves `asked`.
+// What is left of d without the atom k, where the rest still proves `asked`.
 fn drop_atom<'a>(
     left: &'a [u64],
     right: &'a [u64],
-    rows: usize,
+    count: usize,
     n: u8,
-    a: AtomSet,
     asked: u8,
     k: u8,
-    kept_left: &mut [u64],
-    kept_right: &mut [u64],
-    kept: usize,
+    kept: &mut [u64],
+    d: Dropped,
 ) -> Dropped
-    requires { ⌜ (k < n) × (n ≤ limit) × Follow (now left) (now right) rows (now «kept_left») (now «kept_right») kept ⌝ }
-    ensures { λ r. ⌜ (num (r .rest) ≡ dropOne (proves n (clauses (now (left .entry)) (now (right .entry)) rows) asked) k (num a))
-        × Follow (now (left .entry)) (now (right .entry)) rows (now («kept_left» .exit)) (now («kept_right» .exit)) (r .kept) ⌝ }
+    requires { ⌜ (k < n) × (n ≤ limit) × Kept (now left) (now right) count (now kept) (d .kept) ⌝ }
+    ensures { λ r. ⌜ (num (r .rest) ≡ dropOne (proves n (clauses (now (left .entry)) (now (right .entry)) count) asked) k (num (d .rest)))
+        × Kept (now (left .entry)) (now (right .entry)) count (now (kept .exit)) (r .kept) ⌝ }
 {
+    let a = d.rest;
     if !a.has(k) {
-        return Dropped { rest: a, kept };
+        return d;
     }
     let rest = a.without(AtomSet::single(k));
-    let p = sat::proves(
-        left,
-        right,
-        rows,
-        n,
-        rest,
-        asked,
-        kept_left,
-        kept_right,
-        kept,
-    );
-    let kept = p.kept;
+    let p = sat::proves(left, right, count, n, rest, asked, kept, d.kept);
+    let rows = p.kept;
     if p.proved {
-        return Dropped { rest, kept };
+        return Dropped { rest, kept: rows };
     }
-    Dropped { rest: a, kept }
-}
-
-// `given` without those atoms, in rising number, that the proof of `asked` does not need; rows learned are kept in the tables lent.
-fn drop_keeping<'a>(
-    left: &'a [u64],
-    right: &'a [u64],
-    rows: usize,
-    n: u8,
-    given: AtomSet,
-    asked: u8,
-    kept_left: &mut [u64],
-    kept_right: &mut [u64],
-) -> AtomSet
-    requires { ⌜ n ≤ limit ⌝ }
-    ensures { λ r. ⌜ num r ≡ dropFrom (proves n (clauses (now (left .entry)) (now (right .entry)) rows) asked) n 0 (num given) ⌝ }
-{
-    let mut a = given;
-    let mut kept = 0;
-    let mut k: u8 = 0;
-    while k < n {
-        let d = drop_atom(
-            left,
-            right,
-            rows,
-            n,
-            a,
-            asked,
-            k,
-            kept_left,
-            kept_right,
-            kept,
-        );
-        a = d.rest;
-        kept = d.kept;
-        k += 1;
+    Dropped {
+        rest: a,
+        kept: rows,
     }
-    a
 }
 
 // `given` without those atoms, in rising number, that the proof of `asked` does not need.
 pub fn drop_atoms<'a>(
     left: &'a [u64],
     right: &'a [u64],
-    rows: usize,
+    count: usize,
     n: u8,
     given: AtomSet,
     asked: u8,
-) -> AtomSet
-    requires { ⌜ n ≤ limit ⌝ }
-    ensures { λ r. ⌜ num r ≡ dropFrom (proves n (clauses (now (left .entry)) (now (right .entry)) rows) asked) n 0 (num given) ⌝ }
+    kept: &mut [u64],
+    rows: usize,
+) -> Dropped
+    requires { ⌜ (n ≤ limit) × Kept (now left) (now right) count (now kept) rows ⌝ }
+    ensures { λ r. ⌜ (num (r .rest) ≡ dropFrom (proves n (clauses (now (left .entry)) (now (right .entry)) count) asked) n 0 (num given))
+        × Kept (now (left .entry)) (now (right .entry)) count (now (kept .exit)) (r .kept) ⌝ }
 {
-    let mut kept_left = [0u64; KEPT * atoms::WORDS];
-    let mut kept_right = [0u64; KEPT * atoms::WORDS];
-    drop_keeping(
-        left,
-        right,
-        rows,
-        n,
-        given,
-        asked,
-        &mut kept_left,
-        &mut kept_right,
-    )
+    let mut d = Dropped {
+        rest: given,
+        kept: rows,
+    };
+    let mut k: u8 = 0;
+    while k < n {
+        d = drop_atom(left, right, count, n, asked, k, kept, d);
+        k += 1;
+    }
+    d
 }
 
 // Writes the clause of a learned step to a row: the set assumed without a on the left, c on the right.

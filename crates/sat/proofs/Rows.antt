@@ -141,10 +141,10 @@ module _ (left right : List ℕ) (count : ℕ) where
   ]
 
   -- The table grows by a row.
-  pub kept-grown : (kept : List ℕ) (k : ℕ) (left2 right2 : List ℕ) (l r : ℕ) → RowSet left count l left2 → RowSet right count r right2
-      → Kept left right count kept k → Kept left2 right2 (count + 1) kept k
-  kept-grown kept k left2 right2 l r a b f m h =
-      f m (rows-same left2 right2 left right count (count + 1) (omega arith) (λ i lt. sym (a .others i (λ d. omega arith))) (λ i lt. sym (b .others i (λ d. omega arith))) m h)
+  pub kept-grown : (kept : List ℕ) (k : ℕ) (left2 right2 : List ℕ) (l r total : ℕ) → RowSet left count l left2 → RowSet right count r right2 → count ≤ total
+      → Kept left right count kept k → Kept left2 right2 total kept k
+  kept-grown kept k left2 right2 l r total a b e f m h =
+      f m (rows-same left2 right2 left right count total e (λ i lt. sym (a .others i (λ d. omega arith))) (λ i lt. sym (b .others i (λ d. omega arith))) m h)
 
 -- ---- the longer table of a question
 

@@ -31,20 +31,20 @@ slice-aggregate-decide-5 c = let session = c .before .before .before .before .be
 decide-requires : tie.Need-decide-requires
 decide-requires c κs =
     record {
-      in-range = unrefused (c .before .before .before .before .before .before .before .before .before .before) .in-range;
-      left-rows = row-count-words _ (flatTable + stepTable) (sym (slice-aggregate-decide (c .before .before .before .before)));
-      right-rows = row-count-words _ (flatTable + stepTable) (sym (slice-aggregate-decide-2 (c .before .before .before)));
-      numbers-size = sym (slice-aggregate-decide-3 (c .before .before));
-      assumed-rows = row-count-words _ stepTable (sym (slice-aggregate-decide-4 (c .before)));
-      set-rows = row-count-words _ worldTable (sym (slice-aggregate-decide-5 c));
+      in-range = unrefused (c .before .before .before .before .before .before .before .before .before .before .before) .in-range;
+      left-rows = row-count-words _ (flatTable + stepTable) (sym (slice-aggregate-decide (c .before .before .before .before .before)));
+      right-rows = row-count-words _ (flatTable + stepTable) (sym (slice-aggregate-decide-2 (c .before .before .before .before)));
+      numbers-size = sym (slice-aggregate-decide-3 (c .before .before .before));
+      assumed-rows = row-count-words _ stepTable (sym (slice-aggregate-decide-4 (c .before .before)));
+      set-rows = row-count-words _ worldTable (sym (slice-aggregate-decide-5 (c .before)));
       numbers = refl;
       assumed = refl;
     }
 
 conclude-requires : tie.Need-conclude-requires
 conclude-requires c κs =
-    let decided = c .before .before .before .before .before in
-    let given = decided .before .before .before .before .before .before .before .before .before .before .before in
+    let decided = c .before .before .before .before .before .before in
+    let given = decided .before .before .before .before .before .before .before .before .before .before .before .before in
     (ltb-true (given .args .author) authorTable (unrefused given .author), record { left = _; right = _; ended = decided .decide .ensures })
 
 pub settle-spec : {M : Type 1} → statement M
@@ -56,6 +56,7 @@ settle-spec =
     slice-aggregate-decide-3
     slice-aggregate-decide-4
     slice-aggregate-decide-5
+    (λ c. search needs)
     decide-requires
     conclude-requires
     (λ c. search needs))

@@ -11,8 +11,8 @@ returns c = (drop-absent _ _ _ _ _ (sym (c .before .has .ensures) ∙ not-true _
 
 returns-2 : tie.Need-returns-2
 returns-2 c =
-    let asked = c .before .before .before .before .before in
-    let rest = asked .before .before .before in
+    let asked = c .before .before .before in
+    let rest = asked .before .before in
     let there = rest .before .before in
     let start = there .before .before .before .before .before .before in
     let told = asked .proves .ensures (start .pre .2) in (
@@ -23,8 +23,8 @@ returns-2 c =
 
 returns-3 : tie.Need-returns-3
 returns-3 c =
-    let asked = c .before .before .before .before .before in
-    let rest = asked .before .before .before in
+    let asked = c .before .before .before in
+    let rest = asked .before .before in
     let there = rest .before .before in
     let start = there .before .before .before .before .before .before in
     let told = asked .proves .ensures (start .pre .2) in (
@@ -43,8 +43,6 @@ drop-atom-spec =
     (λ c κs. search needs)
     (λ c κs. search needs)
     (λ c. search needs)
-    (λ c. search needs)
     returns-2
-    (λ c. search needs)
     (λ c. search needs)
     returns-3)

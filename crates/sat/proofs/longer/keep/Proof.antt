@@ -3,7 +3,7 @@ use borrow.Author.Needs.{needs}
 use native.Mathlib.Omega.{arith}
 use lib.ListN.{length}
 use mathlib.Core.Path.{_≡_, refl, _∙_}
-use Prim.Native.Nat.{_+_, _*_, _-_, _≤_, _<_}
+use Prim.Native.Nat.{_-_}
 use Rattle.atoms.specs.Words.{rowCount}
 use Rattle.sat.specs.Learning.{Kept}
 use Rattle.sat.proofs.Rows.{kept-none, kept-more}
