@@ -22,10 +22,10 @@ use Rattle.ipl.proofs.Lists.{all-All, All-at, tabulate-at}
 use Rattle.ipl.proofs.Range.{ImplicationBelow, implication-below, single-one}
 use Rattle.ipl.proofs.Steps.{known-snoc}
 use Rattle.sat.specs.Table.{clauses}
-use Rattle.sat.specs.Learning.{Follow}
+use Rattle.sat.specs.Learning.{Kept}
 use Rattle.sat.specs.declared.Proof.{Proof}
 use Rattle.sat.proofs.Table.{clauses-more}
-use Rattle.sat.proofs.Rows.{rows-same, follow-none}
+use Rattle.sat.proofs.Rows.{kept-none}
 use Rattle.certificate.specs.Format.{implicationBytes, stepBytes, bodiesStart, implicationStart, goalStart, claimStart}
 use Rattle.certificate.specs.Layout.{implicationFrom, stepFrom, flatsIn, problemIn, claimIn}
 use Rattle.certificate.specs.Judge.{claimInRange, stepAt, stepProves, goalProved}
@@ -132,39 +132,31 @@ module _ (s : List ℕ) (k : Contents) (ranged : Ranged s k) where
 
 -- ---- the steps in order
 
--- What follows from a table follows from it with one row more.
-pub follow-grown : (left right left2 right2 : List ℕ) (last l r total : ℕ) → RowSet left last l left2 → RowSet right last r right2 → last ≤ total
-    → (keptLeft keptRight : List ℕ) (kept : ℕ) → Follow left right last keptLeft keptRight kept → Follow left2 right2 total keptLeft keptRight kept
-follow-grown left right left2 right2 last l r total setl setr e keptLeft keptRight kept f m h =
-    f m (rows-same left2 right2 left right last total e (λ j lt. sym (setl .others j (λ d. omega arith))) (λ j lt. sym (setr .others j (λ d. omega arith))) m h)
-
 -- After the first i steps, which are right: the tables hold their clauses, from which the rows kept follow.
-pub record Progress (s : List ℕ) (k : Contents) (i : ℕ) (left0 right0 left right keptLeft0 keptRight0 keptLeft keptRight : List ℕ) (kept : ℕ) : Type 0 where
+pub record Progress (s : List ℕ) (k : Contents) (i : ℕ) (left0 right0 left right kept0 kept : List ℕ) (learned : ℕ) : Type 0 where
   pub few : i ≤ k .rows
   pub size-left : length left ≡ length left0
   pub size-right : length right ≡ length right0
-  pub size-kept-left : length keptLeft ≡ length keptLeft0
-  pub size-kept-right : length keptRight ≡ length keptRight0
+  pub size-kept : length kept ≡ length kept0
   pub loaded : clauses left right (k .flats + i) ≡ knownBy s k i
-  pub follow : Follow left right (k .flats + i) keptLeft keptRight kept
+  pub follow : Kept left right (k .flats + i) kept learned
   pub proved : (j : ℕ) → j < i → stepProves (problemBy s k) (stepsBy s k) j ≡ true
 
-module _ (s : List ℕ) (k : Contents) (left0 right0 keptLeft0 keptRight0 : List ℕ) (ready : StepsReady s k left0 right0) where
-  pub progress-none : Progress s k 0 left0 right0 left0 right0 keptLeft0 keptRight0 keptLeft0 keptRight0 0
+module _ (s : List ℕ) (k : Contents) (left0 right0 kept0 : List ℕ) (ready : StepsReady s k left0 right0) where
+  pub progress-none : Progress s k 0 left0 right0 left0 right0 kept0 kept0 0
   unfolding known problemIn
   progress-none = record {
     few = omega arith;
     size-left = refl;
     size-right = refl;
-    size-kept-left = refl;
-    size-kept-right = refl;
+    size-kept = refl;
     loaded = ap (clauses left0 right0) {y = k .flats} (omega arith) ∙ ready .loaded ∙ sym (append-nil (flatsIn s (k .flats)));
-    follow = follow-none _ _ _ _ _;
+    follow = kept-none _ _ _ _;
     proved = λ j l. absurd (omega arith);
   }
 
-  module _ (i : ℕ) (left right keptLeft keptRight : List ℕ) (kept : ℕ) (progress : Progress s k i left0 right0 left right keptLeft0 keptRight0 keptLeft keptRight kept) where
-    pub progress-ready : i < k .rows → StepReady s k i left right keptLeft keptRight kept
+  module _ (i : ℕ) (left right kept : List ℕ) (learned : ℕ) (progress : Progress s k i left0 right0 left right kept0 kept learned) where
+    pub progress-ready : i < k .rows → StepReady s k i left right kept learned
     progress-ready l = record {
       ranged = ready .ranged;
       derives = ready .derives;
@@ -175,15 +167,13 @@ module _ (s : List ℕ) (k : Contents) (left0 right0 keptLeft0 keptRight0 : List
       follow = progress .follow;
     }
 
-    pub progress-next : i < k .rows → (left2 right2 keptLeft2 keptRight2 : List ℕ) → length keptLeft2 ≡ length keptLeft → length keptRight2 ≡ length keptRight
-        → (r : Proof) → StepJudged s k i left right left2 right2 keptLeft2 keptRight2 r → r .proved ≡ true
-        → Progress s k (i + 1) left0 right0 left2 right2 keptLeft0 keptRight0 keptLeft2 keptRight2 (r .kept)
-    progress-next l left2 right2 keptLeft2 keptRight2 el er r step e = record {
+    pub progress-next : i < k .rows → (left2 right2 kept2 : List ℕ) → length kept2 ≡ length kept → (r : Proof) → StepJudged s k i left right left2 right2 kept2 r → r .proved ≡ true
+        → Progress s k (i + 1) left0 right0 left2 right2 kept0 kept2 (r .kept)
+    progress-next l left2 right2 kept2 size r step e = record {
       few = omega arith;
       size-left = step .size-left ∙ progress .size-left;
       size-right = step .size-right ∙ progress .size-right;
-      size-kept-left = el ∙ progress .size-kept-left;
-      size-kept-right = er ∙ progress .size-kept-right;
+      size-kept = size ∙ progress .size-kept;
       loaded = step .loaded;
       follow = step .follow;
       proved = below-more (λ j. stepProves (problemBy s k) (stepsBy s k) j ≡ true) i (progress .proved) (sym (step .judged) ∙ e);

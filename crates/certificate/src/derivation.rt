@@ -26,12 +26,11 @@ fn judge_step(
     i: usize,
     left: &mut [u64],
     right: &mut [u64],
-    kept_left: &mut [u64],
-    kept_right: &mut [u64],
-    kept: usize,
+    kept: &mut [u64],
+    learned: usize,
 ) -> sat::Proof
-    requires { ⌜ StepReady (now bytes) k i (now left) (now right) (now «kept_left») (now «kept_right») kept ⌝ }
-    ensures { λ r. ⌜ StepJudged (now (bytes .entry)) k i (now (left .entry)) (now (right .entry)) (now (left .exit)) (now (right .exit)) (now («kept_left» .exit)) (now («kept_right» .exit)) r ⌝ }
+    requires { ⌜ StepReady (now bytes) k i (now left) (now right) (now kept) learned ⌝ }
+    ensures { λ r. ⌜ StepJudged (now (bytes .entry)) k i (now (left .entry)) (now (right .entry)) (now (left .exit)) (now (right .exit)) (now (kept .exit)) r ⌝ }
 {
     let step = rows::step_from(bytes, k.claim_at() + STEP_BYTES * i);
     let place = k.implications_at() + IMPLICATION_BYTES * step.number as usize;
@@ -44,9 +43,8 @@ fn judge_step(
         byte(bytes, ATOM_COUNT_AT),
         step.assumed,
         x.b,
-        kept_left,
-        kept_right,
         kept,
+        learned,
     );
     atoms::set_row(left, last, step.assumed.without(AtomSet::single(x.a)));
     atoms::set_row(right, last, AtomSet::single(x.c));
@@ -59,21 +57,20 @@ fn judge_steps(
     k: Contents,
     left: &mut [u64],
     right: &mut [u64],
-    kept_left: &mut [u64],
-    kept_right: &mut [u64],
+    kept: &mut [u64],
 ) -> Wrong
     requires { ⌜ StepsReady (now bytes) k (now left) (now right) ⌝ }
     ensures { λ r. ⌜ placeOf r ≡ wrongPlace (problemBy (now (bytes .entry)) k) (valid (stepsBy (now (bytes .entry)) k)) ⌝ }
 {
     let count = k.rows as usize;
-    let mut kept = 0;
+    let mut learned = 0;
     let mut i = 0;
     while i < count {
-        let step = judge_step(bytes, k, i, left, right, kept_left, kept_right, kept);
+        let step = judge_step(bytes, k, i, left, right, kept, learned);
         if !step.proved {
             return Wrong::At(i);
         }
-        kept = step.kept;
+        learned = step.kept;
         i += 1;
     }
     let proof = sat::proves(
@@ -83,9 +80,8 @@ fn judge_steps(
         byte(bytes, ATOM_COUNT_AT),
         AtomSet::EMPTY,
         byte(bytes, k.goal_at()),
-        kept_left,
-        kept_right,
         kept,
+        learned,
     );
     if proof.proved {
         Wrong::Nothing
@@ -103,14 +99,6 @@ pub fn wrong_step(bytes: &[u8], k: Contents) -> Wrong
     let mut right = [0u64; ipl::KNOWN * atoms::WORDS];
     load_column(bytes, FLATS_AT, k.flats as usize, &mut left);
     load_column(bytes, FLATS_AT + SET_BYTES, k.flats as usize, &mut right);
-    let mut kept_left = [0u64; KEPT * atoms::WORDS];
-    let mut kept_right = [0u64; KEPT * atoms::WORDS];
-    judge_steps(
-        bytes,
-        k,
-        &mut left,
-        &mut right,
-        &mut kept_left,
-        &mut kept_right,
-    )
+    let mut kept = [0u64; 2 * KEPT * atoms::WORDS];
+    judge_steps(bytes, k, &mut left, &mut right, &mut kept)
 }

@@ -12,47 +12,34 @@ use Rattle.certificate.proofs.derivation.judge_steps.Statement.{stateme
 use Rattle.certificate.proofs.derivation.judge_steps.Tie as tie
 
 abbrev Inv-loop : tie.InvT-loop
-Inv-loop bytes k left₀ right₀ kept-left₀ kept-right₀ count kept₀ i₀ left right kept-left kept-right kept i =
-    Progress bytes k i left₀ right₀ left right kept-left₀ kept-right₀ kept-left kept-right kept
+Inv-loop bytes k left₀ right₀ kept₀ count learned₀ i₀ left right kept learned i = Progress bytes k i left₀ right₀ left right kept₀ kept learned
 
 abbrev μ-loop : tie.MeasureT-loop
-μ-loop bytes k left₀ right₀ kept-left₀ kept-right₀ count kept₀ i₀ left right kept-left kept-right kept i = k .rows - i
+μ-loop bytes k left₀ right₀ kept₀ count learned₀ i₀ left right kept learned i = k .rows - i
 
 abbrev given : tie.At-loop Inv-loop μ-loop → tie.Start Inv-loop μ-loop
-given c = c .before .before .before .before .before .before .before
+given c = c .before .before .before .before .before .before
 
 -- Once the tables of a step are read, and those of the goal: the call, and the loop before it.
 abbrev judged : tie.After-struct-known2 Inv-loop μ-loop → tie.After-judge-step Inv-loop μ-loop
-judged c = c .before .before .before .before .before .before .before .before .before
+judged c = c .before .before .before .before .before .before .before
 
 abbrev at-step : tie.After-struct-known2 Inv-loop μ-loop → tie.At-loop Inv-loop μ-loop
-at-step c = judged c .before .before .before .before .before .before
+at-step c = judged c .before .before .before .before .before
 
-abbrev asked : tie.After-slice-known10 Inv-loop μ-loop → tie.After-proves Inv-loop μ-loop
-asked c = c .before .before .before .before
+abbrev asked : tie.After-slice-known7 Inv-loop μ-loop → tie.After-proves Inv-loop μ-loop
+asked c = c .before .before
 
-abbrev at-goal : tie.After-slice-known10 Inv-loop μ-loop → tie.At-loop Inv-loop μ-loop
-at-goal c = asked c .before .before .before .before .before .before .before .before .before .before
+abbrev at-goal : tie.After-slice-known7 Inv-loop μ-loop → tie.At-loop Inv-loop μ-loop
+at-goal c = asked c .before .before .before .before .before .before .before .before .before
 
 loop-holds : tie.Need-loop-holds Inv-loop μ-loop
-loop-holds c = progress-none _ _ _ _ _ _ (c .before .before .before .before .before .before .pre)
+loop-holds c = progress-none _ _ _ _ _ (c .before .before .before .before .before .pre)
 
 judge-step-requires : tie.Need-judge-step-requires Inv-loop μ-loop
 judge-step-requires c κs =
-    let at-loop = c .before .before .before .before .before in
-    progress-ready _ _ _ _ _ _ (given at-loop .pre) _ _ _ _ _ _ (at-loop .loop .inv) (omega arith)
-
-same-length : tie.Need-same-length Inv-loop μ-loop
-same-length c = omega (arith, at-step (c .before) .loop .inv .size-left)
-
-same-length-2 : tie.Need-same-length-2 Inv-loop μ-loop
-same-length-2 c = omega (arith, at-step (c .before) .loop .inv .size-right)
-
-same-length-3 : tie.Need-same-length-3 Inv-loop μ-loop
-same-length-3 c = omega (arith, at-step (c .before) .loop .inv .size-kept-left)
-
-same-length-4 : tie.Need-same-length-4 Inv-loop μ-loop
-same-length-4 c = omega (arith, at-step (c .before) .loop .inv .size-kept-right)
+    let at-loop = c .before .before .before .before in
+    progress-ready _ _ _ _ _ (given at-loop .pre) _ _ _ _ _ (at-loop .loop .inv) (omega arith)
 
 returns : tie.Need-returns Inv-loop μ-loop
 returns c =
@@ -68,28 +55,16 @@ loop-less c = omega arith
 loop-again : tie.Need-loop-again Inv-loop μ-loop
 loop-again c =
     let at-loop = at-step (c .before) in
-    progress-next _ _ _ _ _ _ (given at-loop .pre) (at-loop .loop .i) _ _ _ _ _ (at-loop .loop .inv) (omega arith)
-    _ _ _ _ (omega arith) (omega arith) _ (judged (c .before) .judge-step .ensures) (not-false _ (c .if1 .left))
+    progress-next _ _ _ _ _ (given at-loop .pre) (at-loop .loop .i) _ _ _ _ (at-loop .loop .inv) (omega arith)
+    _ _ _ (omega arith) _ (judged (c .before) .judge-step .ensures) (not-false _ (c .if1 .left))
 
 add-proves : tie.Need-add-proves Inv-loop μ-loop
 add-proves c = let ready = given (c .before .before .before .before) .pre in omega (arith, steps-room _ _ (ready .ranged) (ready .derives))
 
-same-length-5 : tie.Need-same-length-5 Inv-loop μ-loop
-same-length-5 c = at-goal (c .before) .loop .inv .size-left
-
-same-length-6 : tie.Need-same-length-6 Inv-loop μ-loop
-same-length-6 c = at-goal (c .before) .loop .inv .size-right
-
-same-length-7 : tie.Need-same-length-7 Inv-loop μ-loop
-same-length-7 c = omega (arith, at-goal (c .before) .loop .inv .size-kept-left)
-
-same-length-8 : tie.Need-same-length-8 Inv-loop μ-loop
-same-length-8 c = omega (arith, at-goal (c .before) .loop .inv .size-kept-right)
-
 returns-2 : tie.Need-returns-2 Inv-loop μ-loop
 returns-2 c =
     let proved = asked (c .before) in
-    let goal = proved .before .before .before in
+    let goal = proved .before .before in
     let at-loop = at-goal (c .before) in
     let ready = given at-loop .pre in
     let proof = proved .proves .ensures (λ m h. at-loop .loop .inv .follow m (λ j l. h j (omega (arith, at-loop .loop .inv .few)))) in
@@ -97,22 +72,10 @@ returns-2 c =
     (sym (goal-judged _ _ (ready .ranged) (ready .derives) (at-loop .loop .i) (omega (arith, at-loop .loop .inv .few)) _ _ (at-loop .loop .inv .loaded)
     _ _ _ _ (goal .before .before .byte .ensures) (goal .before .goal-at .ensures) (goal .byte2 .ensures) num-empty) ∙ sym (proof .0) ∙ c .if2 .taken)
 
-same-length-9 : tie.Need-same-length-9 Inv-loop μ-loop
-same-length-9 c = at-goal (c .before) .loop .inv .size-left
-
-same-length-10 : tie.Need-same-length-10 Inv-loop μ-loop
-same-length-10 c = at-goal (c .before) .loop .inv .size-right
-
-same-length-11 : tie.Need-same-length-11 Inv-loop μ-loop
-same-length-11 c = omega (arith, at-goal (c .before) .loop .inv .size-kept-left)
-
-same-length-12 : tie.Need-same-length-12 Inv-loop μ-loop
-same-length-12 c = omega (arith, at-goal (c .before) .loop .inv .size-kept-right)
-
 returns-3 : tie.Need-returns-3 Inv-loop μ-loop
 returns-3 c =
     let proved = asked (c .before) in
-    let goal = proved .before .before .before in
+    let goal = proved .before .before in
     let at-loop = at-goal (c .before) in
     let ready = given at-loop .pre in
     let proof = proved .proves .ensures (λ m h. at-loop .loop .inv .follow m (λ j l. h j (omega (arith, at-loop .loop .inv .few)))) in
@@ -129,10 +92,9 @@ judge-steps-spec =
     (λ c. search needs)
     loop-holds
     judge-step-requires
-    same-length
-    same-length-2
-    same-length-3
-    same-length-4
+    (λ c. omega (arith, at-step (c .before) .loop .inv .size-left))
+    (λ c. omega (arith, at-step (c .before) .loop .inv .size-right))
+    (λ c. omega (arith, at-step (c .before) .loop .inv .size-kept))
     returns
     add-i
     loop-less
@@ -143,13 +105,11 @@ judge-steps-spec =
     (λ c κs. search needs)
     (λ c κs. search needs)
     (λ c κs. search needs)
-    same-length-5
-    same-length-6
-    same-length-7
-    same-length-8
+    (λ c. at-goal (c .before) .loop .inv .size-left)
+    (λ c. at-goal (c .before) .loop .inv .size-right)
+    (λ c. omega (arith, at-goal (c .before) .loop .inv .size-kept))
     returns-2
-    same-length-9
-    same-length-10
-    same-length-11
-    same-length-12
+    (λ c. at-goal (c .before) .loop .inv .size-left)
+    (λ c. at-goal (c .before) .loop .inv .size-right)
+    (λ c. omega (arith, at-goal (c .before) .loop .inv .size-kept))
     returns-3)

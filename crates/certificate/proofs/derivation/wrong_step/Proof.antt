@@ -21,7 +21,7 @@ load-column-requires-2 c κs =
 
 judge-steps-requires : tie.Need-judge-steps-requires
 judge-steps-requires c κs =
-    let right-loaded = c .before .before .before .before .before in
+    let right-loaded = c .before .before .before .before in
     let left-loaded = right-loaded .before .before .before .before in
     let given = left-loaded .before .before .before .before in
     steps-ready _ _ (given .pre .0) _ _ _ _ (left-loaded .load-column .ensures) (right-loaded .load-column2 .ensures) (given .pre .1) refl refl
@@ -37,7 +37,6 @@ wrong-step-spec =
     (λ c. search needs)
     (λ c. search needs)
     load-column-requires-2
-    (λ c. search needs)
     (λ c. search needs)
     (λ c. search needs)
     (λ c. search needs)
