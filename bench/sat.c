@@ -94,176 +94,110 @@ static Found least(const Table *t, Partial known, u64 *conflicts, u64 *model) {
 
 /* ---- the copy in C: rows learned */
 
-/* Rows of the longer table; no row and no place; where the lists of literals begin; turns at most. */
-enum { LONG = 1024 + 4096, NONE = 65535, HEADS = 4 * LONG, TURNS = 1 << 26 };
+/* Rows of the longer table; no place; where the lists of literals begin, that of the rows looked at first, and a list's end. */
+enum { LONG = 1024 + 4096, NONE = 65535, LISTS = 4 * LONG, FIRST = LISTS + 128, PAST, LINKS, STARTS = 1 << 20 };
 
-/* An atom, and the row that forced it; a decision has NONE. */
-typedef struct { uint16_t atom, reason; } Assigned;
 /* A clause, and the atoms that it and those that it was made of have. */
 typedef struct { u64 left, right, met; } Clause;
 
-/* A table with room for rows that follow from its `own`; what was assigned, how much of that was followed, and a row that fails;
-   the atom from which on all are decided in falling order. In `links` each row has two places of two numbers: the next place in the
-   list of a literal that it watches, and that literal, which is 2x for atom x on the left and 2x + 1 on the right. */
+/* A table with room for rows that follow from its `own`; the atom from which on all are decided in falling order; the rows that forced
+   atoms. In `links` each row has two places of two numbers: the next place in the list of a literal that it watches, and that literal,
+   which is 2x for atom x on the left and 2x + 1 on the right. */
 typedef struct {
   u64 left[LONG], right[LONG];
   size_t own, total;
-  Partial base, known;
-  Assigned trail[64];
-  size_t length, followed, fails;
+  Partial base;
   int ordered;
-  uint16_t activity[64], links[HEADS + 128];
+  uint16_t activity[64], reasons[64], links[LINKS];
 } Learning;
 
-static u64 atoms_of(const Clause *k) { return k->left | k->right; }
-static size_t list_of(int x, bool on_left) { return HEADS + 2 * x + !on_left; }
+/* Where the search stands: what is known, the atoms known before the last decision, those whose lists are to be looked at, where the next
+   place of a list stands, the atom assigned last, 64 for none, and the row that forced it, LONG for none. */
+typedef struct { Partial known; u64 before, waiting; size_t at, row; int atom; } Walk;
 
-static void assign(Learning *s, int x, bool had, size_t reason) {
-  s->trail[s->length++] = (Assigned){x, reason};
-  *(had ? &s->known.has : &s->known.lacks) |= single(x);
+/* How exploring ends: with a clause that fails; with a row that was learned; with a model; or for want of room. */
+typedef enum { FAILS, LEARNED, STANDS, FULL } Kind;
+typedef struct { Kind kind; Clause clause; size_t row; u64 model; } End;
+
+static u64 atoms_of(Clause k) { return k.left | k.right; }
+static u64 open_atoms(Clause k, Partial p) { return (k.left & ~p.has) | (k.right & ~p.lacks); }
+static size_t list_of(int x, bool on_left) { return LISTS + 2 * x + !on_left; }
+static Clause clause_of(const Learning *s, size_t row) {
+  u64 l = s->left[row], r = s->right[row];
+  return (Clause){l, r, l | r};
 }
 
-/* Puts the row at a place into the list of an atom of it. */
+static void link_first(Learning *s, size_t place, size_t list) {
+  s->links[place] = s->links[list];
+  s->links[list] = place;
+}
 static void watch(Learning *s, size_t place, int x, u64 left) {
   size_t list = list_of(x, left & single(x));
-  s->links[place] = s->links[list];
-  s->links[place + 1] = list - HEADS;
-  s->links[list] = place;
+  s->links[place + 1] = list - LISTS;
+  link_first(s, place, list);
 }
 static void watch_two(Learning *s, size_t row, int x, int y, u64 left) {
   watch(s, 4 * row, x, left);
   watch(s, 4 * row + 2, y, left);
 }
 
-/* Looks at the row whose place stands at `at`, one of whose watched atoms became false: it is true, it fails, it forces its last
-   open atom, or another open atom is watched. Where the next place stands is the result. */
-static size_t visit(Learning *s, size_t at) {
-  size_t place = s->links[at], row = place / 4;
-  u64 l = s->left[row], r = s->right[row];
-  if ((l & s->known.lacks) | (r & s->known.has)) return place;
-  u64 a = l & ~s->known.has, open = a | (r & ~s->known.lacks);
-  if (!open) return s->fails = row, place;
-  size_t other = place ^ 2;
-  u64 rest = open & ~single(s->links[other + 1] / 2);
-  if (!rest) return assign(s, highest(open), !a, row), place;
-  s->links[at] = s->links[place];
-  watch(s, place, highest(rest), a);
-  return at;
-}
-
-/* Looks at the rows that the atoms assigned and not yet followed may force or falsify, until one fails. */
-static void follow(Learning *s) {
-  while (s->followed < s->length && s->fails == NONE) {
-    int x = s->trail[s->followed++].atom;
-    size_t at = list_of(x, s->known.has & single(x));
-    while (s->links[at] != NONE && s->fails == NONE) at = visit(s, at);
-  }
-}
-
-/* Looks at a row where nothing is decided. */
+/* Enters a row into the lists: two open atoms of it are watched; where it has not two, it is looked at first. */
 static void enter(Learning *s, size_t row) {
-  u64 l = s->left[row], r = s->right[row];
-  if ((l & (r | s->known.lacks)) | (r & s->known.has)) return;
-  u64 a = l & ~s->known.has, open = a | (r & ~s->known.lacks), rest = without_lowest(open);
-  if (!open) s->fails = row;
-  else if (!rest) assign(s, highest(open), !a, row);
-  else watch_two(s, row, highest(rest), lowest(open), a);
+  u64 l = s->left[row], r = s->right[row], has = s->base.has, lacks = s->base.lacks;
+  if ((l & (r | lacks)) | (r & has)) return;
+  u64 a = l & ~has, open = a | (r & ~lacks), rest = without_lowest(open);
+  if (rest) watch_two(s, row, highest(rest), lowest(open), a);
+  else link_first(s, 4 * row, FIRST);
 }
-
-static void start(Learning *s) {
-  memset(&s->links[HEADS], 0xff, 128 * sizeof s->links[0]);
-  s->known = s->base, s->length = s->followed = 0, s->fails = NONE;
+static void enter_all(Learning *s) {
+  memset(&s->links[LISTS], 0xff, (LINKS - LISTS) * sizeof s->links[0]);
   for (size_t row = 0; row < s->total; row++) enter(s, row);
-  follow(s);
 }
 
-static void resolve(const Learning *s, Clause *k, Assigned by) {
-  u64 x = single(by.atom), l = s->left[by.reason], r = s->right[by.reason];
-  bool on_right = k->right & x;
-  k->left = on_right ? k->left | (l & ~x) : (k->left & ~x) | l;
-  k->right = on_right ? (k->right & ~x) | r : k->right | (r & ~x);
-  k->met |= l | r;
+/* Looks at the row at a place: it is true, it tells something, or another open atom of it is watched. */
+static void visit(Learning *s, Walk *w, size_t place) {
+  size_t row = place / 4, other = place ^ 2;
+  u64 l = s->left[row], r = s->right[row];
+  if ((l & w->known.lacks) | (r & w->known.has)) {
+    w->at = place;
+    return;
+  }
+  u64 a = l & ~w->known.has, open = a | (r & ~w->known.lacks);
+  if (!without_lowest(open)) {
+    w->at = place, w->row = row;
+    return;
+  }
+  u64 rest = open & ~single(s->links[other + 1] / 2);
+  s->links[w->at] = s->links[place];
+  watch(s, place, highest(rest), a);
 }
 
-/* Resolves with the reasons of the atoms wanted, last assigned first, until one atom of the level is left; to the end where there is
-   no level. */
-static void resolve_back(const Learning *s, Clause *k, u64 wanted, u64 level) {
-  for (size_t p = s->length; p && !(level && !without_lowest(atoms_of(k) & level)); p--) {
-    Assigned by = s->trail[p - 1];
-    if (by.reason != NONE && atoms_of(k) & wanted & single(by.atom)) resolve(s, k, by);
+/* Looks at the rows of the lists, until one tells something or all were looked at. */
+static void advance(Learning *s, Walk *w) {
+  for (w->row = LONG; w->row == LONG;) {
+    size_t place = s->links[w->at];
+    if (place != NONE) {
+      visit(s, w, place);
+    } else {
+      if (!w->waiting) return;
+      int x = highest(w->waiting);
+      w->at = list_of(x, w->known.has & single(x));
+      w->waiting &= ~single(x);
+    }
   }
 }
 
-/* The atoms whose reason has no other atoms than known ones and such atoms. */
-static u64 redundant(const Learning *s, u64 known) {
-  u64 found = 0;
-  for (size_t p = 0; p < s->length; p++) {
-    size_t row = s->trail[p].reason;
-    u64 x = single(s->trail[p].atom);
-    if (row != NONE && !((s->left[row] | s->right[row]) & ~(x | known | found))) found |= x;
-  }
-  return found;
+static void assign(Learning *s, Walk *w, int x, bool had) {
+  s->reasons[x] = w->row;
+  *(had ? &w->known.has : &w->known.lacks) |= single(x);
+  w->waiting |= single(x), w->atom = x;
 }
 
-/* What the row that fails teaches. */
-static Clause analyse(const Learning *s, u64 level) {
-  u64 l = s->left[s->fails], r = s->right[s->fails];
-  Clause k = {l, r, l | r};
-  resolve_back(s, &k, ~(u64)0, level);
-  resolve_back(s, &k, redundant(s, atoms_of(&k) | s->base.has | s->base.lacks), 0);
-  return k;
-}
-
-/* The last decision and the atoms assigned after it; none where nothing is decided. */
-static u64 last_level(const Learning *s) {
-  u64 found = 0;
-  for (size_t p = s->length; p; p--) {
-    found |= single(s->trail[p - 1].atom);
-    if (s->trail[p - 1].reason == NONE) return found;
-  }
-  return 0;
-}
-
-/* How many atoms were assigned up to the last one of a set. */
-static size_t up_to_last(const Learning *s, u64 wanted) {
-  size_t p = s->length;
-  while (p && !(wanted & single(s->trail[p - 1].atom))) p--;
-  return p;
-}
-
-/* Back to the end of the level of the `kept`th atom. */
-static void go_back(Learning *s, size_t kept) {
-  u64 passed = 0, gone = 0;
-  for (size_t p = s->length; p > kept; p--) {
-    passed |= single(s->trail[p - 1].atom);
-    if (s->trail[p - 1].reason == NONE) gone = passed, s->length = p - 1;
-  }
-  s->known.has &= ~gone, s->known.lacks &= ~gone;
-  s->followed = s->length, s->fails = NONE;
-}
-
-static void raise_activity(Learning *s, u64 met) {
-  for (; met; met = without_lowest(met))
-    if (s->activity[lowest(met)] < 32768) s->activity[lowest(met)] += 256;
-  if (s->total % 16 == 0)
-    for (int x = 0; x < 64; x++) s->activity[x] /= 2;
-}
-
-/* Learns from the row that fails, and goes on where the new row forces an atom; not where nothing is decided. */
-static bool learn_row(Learning *s) {
-  u64 level = last_level(s);
-  Clause k = analyse(s, level);
-  raise_activity(s, k.met);
-  size_t row = s->total++;
-  s->left[row] = k.left, s->right[row] = k.right;
-  if (!level) return false;
-  size_t kept = up_to_last(s, atoms_of(&k) & ~level);
-  int x = highest(atoms_of(&k) & level);
-  go_back(s, kept);
-  if (kept) watch_two(s, row, x, s->trail[kept - 1].atom, k.left);
-  assign(s, x, !(k.left & single(x)), row);
-  follow(s);
-  return true;
+/* Assigns the open atom of a clause, or none where it fails. */
+static void force(Learning *s, Walk *w, Clause k) {
+  u64 open = open_atoms(k, w->known);
+  w->atom = 64;
+  if (open) assign(s, w, highest(open), !(k.left & single(highest(open))));
 }
 
 static int busiest(const Learning *s, u64 atoms) {
@@ -273,18 +207,78 @@ static int busiest(const Learning *s, u64 atoms) {
   return best;
 }
 
-static void decide(Learning *s, u64 open) {
-  assign(s, s->ordered <= highest(open) ? highest(open) : busiest(s, open), false, NONE);
-  follow(s);
+/* The next atom is assigned: a row forces it, or it is decided; none where a row fails or all are known. */
+static Walk next_of(Learning *s, Walk w) {
+  advance(s, &w);
+  if (w.row < LONG) return force(s, &w, clause_of(s, w.row)), w;
+  w.before = w.known.has | w.known.lacks, w.atom = 64;
+  u64 open = ~w.before;
+  if (open) assign(s, &w, s->ordered <= highest(open) ? highest(open) : busiest(s, open), false);
+  return w;
 }
 
-/* At a model: back to the start, with one atom more of it to be decided in order; not where there is none. */
-static bool lower(Learning *s) {
-  u64 ordered = s->ordered < 64 ? ~(single(s->ordered) - 1) : 0, below = s->known.has & ~(ordered | s->base.has);
-  if (!below) return false;
-  s->ordered = highest(below);
-  go_back(s, 0);
-  return true;
+static Clause resolve(const Learning *s, Clause k, size_t row, int atom) {
+  u64 x = single(atom), l = s->left[row], r = s->right[row];
+  bool on_right = k.right & x;
+  return (Clause){on_right ? k.left | (l & ~x) : (k.left & ~x) | l, on_right ? (k.right & ~x) | r : k.right | (r & ~x), k.met | l | r};
+}
+
+/* Without those atoms that the rows which forced them make redundant. */
+static Clause shorter(const Learning *s, Clause k) {
+  for (u64 rest = atoms_of(k); rest; rest &= ~single(highest(rest))) {
+    int x = highest(rest);
+    size_t row = s->reasons[x];
+    if (row < s->total && !(atoms_of(clause_of(s, row)) & ~(single(x) | atoms_of(k)))) k = resolve(s, k, row, x);
+  }
+  return k;
+}
+
+static void raise_activity(Learning *s, u64 met) {
+  for (; met; met = without_lowest(met))
+    if (s->activity[lowest(met)] < 32768) s->activity[lowest(met)] += 256;
+  if (s->total % 16 == 0)
+    for (int x = 0; x < 64; x++) s->activity[x] /= 2;
+}
+
+static End learn(Learning *s, Clause k) {
+  k = shorter(s, k);
+  raise_activity(s, k.met);
+  if (s->total == LONG) return (End){.kind = FULL};
+  s->left[s->total] = k.left, s->right[s->total] = k.right;
+  return (End){.kind = LEARNED, .row = s->total++};
+}
+
+/* Goes back over an assignment: a conflict is learned where it has one atom of the last level, else resolved with the row that forced the
+   atom. */
+static End go_back(Learning *s, Walk v, End e) {
+  if (e.kind != FAILS) return e;
+  u64 level = atoms_of(e.clause) & ~v.before;
+  if (level && !without_lowest(level)) return learn(s, e.clause);
+  if (v.row < s->total && atoms_of(e.clause) & single(v.atom)) e.clause = resolve(s, e.clause, v.row, v.atom);
+  return e;
+}
+
+/* What a row just learned forces from w on. */
+static Walk follow(Learning *s, Walk w, size_t row) {
+  Clause k = clause_of(s, row);
+  u64 late = atoms_of(k) & ~open_atoms(k, w.known) & ~w.before;
+  w.atom = 64;
+  if (!late) return w;
+  w.waiting = 0, w.at = PAST, w.row = row;
+  force(s, &w, k);
+  if (w.atom < 64) watch_two(s, row, w.atom, highest(late), k.left);
+  return w;
+}
+
+/* Explores what is known, each assignment in a call of its own. */
+static End explore(Learning *s, Walk w) {
+  Walk v = next_of(s, w);
+  if (v.atom == 64)
+    return v.row < s->total ? (End){.kind = FAILS, .clause = clause_of(s, v.row)} : (End){.kind = STANDS, .model = v.known.has};
+  End e = go_back(s, v, explore(s, v));
+  if (e.kind != LEARNED) return e;
+  Walk u = follow(s, w, e.row);
+  return u.atom == 64 ? e : go_back(s, u, explore(s, u));
 }
 
 static size_t literals(const Learning *s, size_t row) {
@@ -310,12 +304,18 @@ static void shorten(Learning *s) {
   s->total = to;
 }
 
-/* One turn: room is made, a row is learned, or an atom is decided. Whether it is not over. */
-static bool turn(Learning *s) {
-  if (s->total == LONG) return shorten(s), start(s), s->total < LONG;
-  if (s->fails != NONE) return learn_row(s);
-  u64 open = ~(s->known.has | s->known.lacks);
-  return open ? decide(s, open), true : lower(s);
+/* Explores from the start, and does what its end asks for. Whether it is not over. */
+static bool start(Learning *s) {
+  End e = explore(s, (Walk){s->base, ~(u64)0, 0, FIRST, LONG, 64});
+  if (e.kind == FULL) return shorten(s), enter_all(s), s->total < LONG;
+  if (e.kind == LEARNED) return enter(s, e.row), true;
+  if (e.kind == FAILS) {
+    if (s->total < LONG) s->left[s->total] = e.clause.left, s->right[s->total++] = e.clause.right;
+    return false;
+  }
+  u64 ordered = s->ordered < 64 ? ~(single(s->ordered) - 1) : 0, below = e.model & ~(ordered | s->base.has);
+  if (below) s->ordered = highest(below);
+  return below;
 }
 
 static Found least_of_longer(const Table *t, Partial base, u64 *model) {
@@ -324,8 +324,8 @@ static Found least_of_longer(const Table *t, Partial base, u64 *model) {
   memcpy(s.right, t->right, t->count * sizeof(u64));
   memset(s.activity, 0, sizeof s.activity);
   s.own = s.total = t->count, s.base = base, s.ordered = 64;
-  start(&s);
-  for (int turns = TURNS; turns && turn(&s); turns--);
+  enter_all(&s);
+  for (int starts = STARTS; starts && start(&s); starts--);
   u64 conflicts = NO_LIMIT;
   return least(&(Table){s.left, s.right, s.total}, base, &conflicts, model);
 }

@@ -287,9 +287,10 @@ fn staged(s: Stage, end: End, total: usize, given: AtomSet, smallest: bool) -> S
             next.ordered = below.highest_number();
             next.over = if smallest { below.is_empty() } else { true };
         }
-        _ => {
+        End::Full => {
             next.over = ROWS <= total;
         }
+        _ => {}
     }
     next
 }
