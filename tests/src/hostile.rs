@@ -1,6 +1,6 @@
 //! Clause tables that are hard for plain search. None has a model unless said.
 
-use crate::naming::{single, Flat, Problem, FALSE};
+use crate::naming::{single, Flat, Implication, Problem, FALSE};
 use crate::random::Random;
 
 pub struct Table {
@@ -165,6 +165,23 @@ impl Table {
         Problem { atoms: self.atoms, flats: self.rows.clone(), implications: Vec::new(), goal: FALSE }
     }
 
+    /// The clauses under a guard, which each of some atoms brings: so none of these can hold, each is the a of an implication
+    /// (a → ⊥) → c, and the atoms c together bring the goal. Every step of the search asks the same hard question.
+    pub fn guarded(&self, steps: u8) -> Problem {
+        let guard = self.atoms;
+        let goal = guard + 2 * steps + 1;
+        let brought = |step: u8| guard + 2 * step + 2;
+        let under_guard = |row: &Flat| Flat { left: row.left | single(guard), ..*row };
+        let brings = |a: u8| Flat { left: single(a), right: single(guard) };
+        let all = Flat { left: (0..steps).map(|step| single(brought(step))).sum(), right: single(goal) };
+        let implications: Vec<Implication> =
+            (0..steps).map(|step| Implication { a: brought(step) - 1, b: FALSE, c: brought(step) }).collect();
+        let mut flats: Vec<Flat> = self.rows.iter().map(under_guard).collect();
+        flats.extend(implications.iter().map(|implication| brings(implication.a)));
+        flats.push(all);
+        Problem { atoms: goal + 1, flats, implications, goal }
+    }
+
     /// One of these atoms is as said of it.
     fn clause(&mut self, literals: impl IntoIterator<Item = (u8, bool)>) {
         let mut row = Flat { left: 0, right: 0 };
@@ -207,6 +224,15 @@ impl Table {
             }
         }
     }
+}
+
+/// The calls that open a session with these clauses and ask for the goal.
+pub fn script_of(problem: &Problem) -> String {
+    let Problem { atoms, flats, implications, goal } = problem;
+    let flats = flats.iter().map(|Flat { left, right }| format!("flat {left} {right}\n"));
+    let implications = implications.iter().map(|Implication { a, b, c }| format!("implication {a} {b} {c}\n"));
+    let calls: String = flats.chain(implications).collect();
+    format!("open {atoms}\n{calls}ask {goal}\n")
 }
 
 #[cfg(test)]

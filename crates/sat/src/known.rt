@@ -1,8 +1,8 @@
-// Partial knowledge of a model, with one atom more or less.
+// Partial knowledge of a model, with one atom more.
 use super::Partial;
 use atoms::AtomSet;
 ghost use mathlib.Core.Path.{_≡_};
-ghost use Rattle.atoms.specs.Sets.{union, minus};
+ghost use Rattle.atoms.specs.Sets.{union};
 ghost use Rattle.atoms.specs.Words.{num};
 ghost use Rattle.sat.specs.Knowledge.{PartialIs, samePartial};
 
@@ -25,17 +25,6 @@ pub fn lacking(p: Partial, x: AtomSet) -> Partial
     Partial {
         has,
         lacks: lacks.join(x),
-    }
-}
-
-pub fn forgetting(p: Partial, x: AtomSet) -> Partial
-    ensures { λ r. ⌜ PartialIs r (minus (num (p .has)) (num x)) (minus (num (p .lacks)) (num x)) ⌝ }
-{
-    let has = p.has;
-    let lacks = p.lacks;
-    Partial {
-        has: has.without(x),
-        lacks: lacks.without(x),
     }
 }
 

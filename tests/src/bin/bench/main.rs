@@ -1,12 +1,13 @@
 //! Times the proved library, the whole program `settle` and the second implementation side by side, formula by formula,
 //! and prints one table in milliseconds; then calls on a session beside scripts of them, pages of goals beside single
-//! questions, screenings, and the checking of hostile sheets. The path of `settle` may be given as an argument.
+//! questions, screenings, the checking of hostile sheets, and hostile sessions. The path of `settle` may be given as an argument.
 
 mod calls;
 mod clock;
 mod pages;
 mod screenings;
 mod scripts;
+mod sessions;
 mod sets;
 mod sheets;
 
@@ -43,6 +44,8 @@ fn main() {
     screenings::print_counts();
     println!();
     sheets::print_times();
+    println!();
+    sessions::print_times();
 }
 
 /// One way to what is printed of a formula.

@@ -1,6 +1,6 @@
 //! Scripts too long to be stored.
 
-use outside::hostile::small;
+use outside::hostile::{script_of, small};
 use outside::naming::{single, Flat, FALSE};
 use outside::report::{certified, settle_text};
 use outside::script::{hexadecimal, MOST_LINE_BYTES};
@@ -101,7 +101,8 @@ pub fn long_pages() -> Vec<u8> {
     script.into_bytes()
 }
 
-/// Sessions over small hostile tables, whole and without their last clause, asked for ⊥ and for some atoms.
+/// Sessions over small hostile tables, whole and without their last clause, asked for ⊥ and for some atoms; and under a guard, where
+/// every step asks the same.
 pub fn hostile_sessions() -> Vec<u8> {
     let mut script = String::new();
     for table in small() {
@@ -111,6 +112,8 @@ pub fn hostile_sessions() -> Vec<u8> {
             script += &(0..table.atoms).step_by(8).map(|goal| format!("ask {goal}\n")).collect::<String>();
             script += &format!("ask {FALSE}\n");
         }
+        let steps = (63 - table.atoms) / 2;
+        script += &script_of(&table.guarded(steps.min(8)));
     }
     script.into_bytes()
 }
