@@ -18,9 +18,6 @@ Inv-loop left right count kept rows long-left₀ long-right₀ room more i₀ lo
 abbrev μ-loop : tie.MeasureT-loop
 μ-loop left right count kept rows long-left₀ long-right₀ room more i₀ long-left long-right i = more - i
 
-returns : tie.Need-returns Inv-loop μ-loop
-returns c = filled-none _ _ _ _ _ _ _ (omega arith)
-
 loop-holds : tie.Need-loop-holds Inv-loop μ-loop
 unfolding rowCount
 loop-holds c =
@@ -38,27 +35,6 @@ loop-holds c =
       omega (arith, c .fewer3 .ensures .1, left .copy-rows .ensures .size, room .fewer .ensures .0),
       omega (arith, c .fewer3 .ensures .1, right .copy-rows2 .ensures .size, room .fewer .ensures .1),
     )
-
-add-set-row : tie.Need-add-set-row Inv-loop μ-loop
-add-set-row c = omega arith
-
-mul-row : tie.Need-mul-row Inv-loop μ-loop
-mul-row c = omega arith
-
-add-set-row-2 : tie.Need-add-set-row-2 Inv-loop μ-loop
-add-set-row-2 c = omega arith
-
-mul-row-2 : tie.Need-mul-row-2 Inv-loop μ-loop
-mul-row-2 c = omega arith
-
-add-row : tie.Need-add-row Inv-loop μ-loop
-add-row c = omega arith
-
-add-i : tie.Need-add-i Inv-loop μ-loop
-add-i c = omega arith
-
-loop-less : tie.Need-loop-less Inv-loop μ-loop
-loop-less c = omega arith
 
 loop-again : tie.Need-loop-again Inv-loop μ-loop
 unfolding rowCount
@@ -79,18 +55,6 @@ loop-again c =
       inv .7,
     )
 
-add-result : tie.Need-add-result Inv-loop μ-loop
-add-result c = omega arith
-
-same-length-3 : tie.Need-same-length-3 Inv-loop μ-loop
-same-length-3 c = c .before .loop .inv .0 ∙ c .before .before .before .before .before .before .before .before .before .before .before .copy-rows .ensures .size
-
-same-length-4 : tie.Need-same-length-4 Inv-loop μ-loop
-same-length-4 c = c .before .loop .inv .1 ∙ c .before .before .before .before .before .before .before .copy-rows2 .ensures .size
-
-returns-2 : tie.Need-returns-2 Inv-loop μ-loop
-returns-2 c = c .before .loop .inv .2
-
 pub fill-spec : {M : Type 1} → statement M
 fill-spec =
     tie.close
@@ -102,26 +66,26 @@ fill-spec =
     (λ c κs. search needs)
     (λ c. search needs)
     (λ c. search needs)
-    returns
+    (λ c. filled-none _ _ _ _ _ _ _ (omega arith))
     (λ c κs. search needs)
     (λ c κs. search needs)
     (λ c κs. search needs)
     (λ c κs. search needs)
     (λ c κs. search needs)
     loop-holds
-    add-set-row
-    mul-row
+    (λ c. omega arith)
+    (λ c. omega arith)
     (λ c κs. search needs)
     (λ c κs. search needs)
-    add-set-row-2
-    mul-row-2
-    add-row
+    (λ c. omega arith)
+    (λ c. omega arith)
+    (λ c. omega arith)
     (λ c κs. search needs)
     (λ c κs. search needs)
-    add-i
-    loop-less
+    (λ c. omega arith)
+    (λ c. omega arith)
     loop-again
-    add-result
-    same-length-3
-    same-length-4
-    returns-2)
+    (λ c. omega arith)
+    (λ c. c .before .loop .inv .0 ∙ c .before .before .before .before .before .before .before .before .before .before .before .copy-rows .ensures .size)
+    (λ c. c .before .loop .inv .1 ∙ c .before .before .before .before .before .before .before .copy-rows2 .ensures .size)
+    (λ c. c .before .loop .inv .2))

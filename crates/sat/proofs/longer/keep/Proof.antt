@@ -18,36 +18,6 @@ Inv-loop long-left long-right own total kept₀ rows from i₀ kept i =
 abbrev μ-loop : tie.MeasureT-loop
 μ-loop long-left long-right own total kept₀ rows from i₀ kept i = rows - i
 
-sub-fewer : tie.Need-sub-fewer Inv-loop μ-loop
-sub-fewer c = omega arith
-
-sub-from : tie.Need-sub-from Inv-loop μ-loop
-sub-from c = omega arith
-
-loop-holds : tie.Need-loop-holds Inv-loop μ-loop
-loop-holds c = (refl, kept-none _ _ _ _)
-
-mul-set-row : tie.Need-mul-set-row Inv-loop μ-loop
-mul-set-row c = omega arith
-
-add-row : tie.Need-add-row Inv-loop μ-loop
-add-row c = omega arith
-
-mul-set-row-2 : tie.Need-mul-set-row-2 Inv-loop μ-loop
-mul-set-row-2 c = omega arith
-
-add-set-row : tie.Need-add-set-row Inv-loop μ-loop
-add-set-row c = omega arith
-
-add-row-2 : tie.Need-add-row-2 Inv-loop μ-loop
-add-row-2 c = omega arith
-
-add-i : tie.Need-add-i Inv-loop μ-loop
-add-i c = omega arith
-
-loop-less : tie.Need-loop-less Inv-loop μ-loop
-loop-less c = omega arith
-
 loop-again : tie.Need-loop-again Inv-loop μ-loop
 unfolding rowCount
 loop-again c =
@@ -61,12 +31,6 @@ loop-again c =
           (λ m h. row-holds _ _ m _ _ _ (left .before .row .ensures) (right .before .row2 .ensures) _ (omega arith) h),
     )
 
-same-length : tie.Need-same-length Inv-loop μ-loop
-same-length c = c .before .loop .inv .0
-
-returns : tie.Need-returns Inv-loop μ-loop
-returns c = c .before .loop .inv .1
-
 pub keep-spec : {M : Type 1} → statement M
 keep-spec =
     tie.close
@@ -74,21 +38,21 @@ keep-spec =
     Inv-loop
     μ-loop
     (λ c κs. search needs)
-    sub-fewer
+    (λ c. omega arith)
     (λ c κs. search needs)
-    sub-from
-    loop-holds
-    mul-set-row
-    add-row
-    (λ c κs. search needs)
-    (λ c κs. search needs)
-    mul-set-row-2
-    add-set-row
-    add-row-2
+    (λ c. omega arith)
+    (λ c. (refl, kept-none _ _ _ _))
+    (λ c. omega arith)
+    (λ c. omega arith)
     (λ c κs. search needs)
     (λ c κs. search needs)
-    add-i
-    loop-less
+    (λ c. omega arith)
+    (λ c. omega arith)
+    (λ c. omega arith)
+    (λ c κs. search needs)
+    (λ c κs. search needs)
+    (λ c. omega arith)
+    (λ c. omega arith)
     loop-again
-    same-length
-    returns)
+    (λ c. c .before .loop .inv .0)
+    (λ c. c .before .loop .inv .1))
