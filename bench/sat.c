@@ -151,6 +151,7 @@ static void enter(Learning *s, size_t row) {
 }
 static void enter_all(Learning *s) {
   memset(&s->links[LISTS], 0xff, (LINKS - LISTS) * sizeof s->links[0]);
+  memset(s->reasons, 0xff, sizeof s->reasons);
   for (size_t row = 0; row < s->total; row++) enter(s, row);
 }
 

@@ -3,6 +3,7 @@
 use super::super::Partial;
 use super::super::known;
 use super::ROWS;
+use super::notes::ACTIVITIES;
 use super::notes::FIRST;
 use super::notes::LISTS;
 use super::notes::NONE;
@@ -205,9 +206,9 @@ pub fn enter<'a>(left: &'a [u64], right: &'a [u64], notes: &mut [u16], base: Par
     }
 }
 
-// Empties all lists.
+// Empties all lists, and forgets all reasons.
 fn clear(notes: &mut [u16]) {
-    let mut i = FIRST + 1;
+    let mut i = ACTIVITIES;
     while LISTS < i {
         i -= 1;
         set_number(notes, i, NONE);

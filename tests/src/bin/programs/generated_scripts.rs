@@ -101,8 +101,8 @@ pub fn long_pages() -> Vec<u8> {
     script.into_bytes()
 }
 
-/// Sessions over small hostile tables, whole and without their last clause, asked for ⊥ and for some atoms; and under a guard, where
-/// every step asks the same.
+/// Sessions over small hostile tables, whole and without their last clause, asked for ⊥ and for some atoms; the smallest also
+/// under a guard, where every step asks the same.
 pub fn hostile_sessions() -> Vec<u8> {
     let mut script = String::new();
     for table in small() {
@@ -112,8 +112,9 @@ pub fn hostile_sessions() -> Vec<u8> {
             script += &(0..table.atoms).step_by(8).map(|goal| format!("ask {goal}\n")).collect::<String>();
             script += &format!("ask {FALSE}\n");
         }
-        let steps = (63 - table.atoms) / 2;
-        script += &script_of(&table.guarded(steps.min(8)));
+        if table.atoms <= 24 {
+            script += &script_of(&table.guarded(4));
+        }
     }
     script.into_bytes()
 }
