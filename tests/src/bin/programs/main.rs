@@ -24,7 +24,7 @@ struct Counts {
 }
 
 /// So much there is to compare on the fixed seed: a list that shrank or a loop that ended early shows here.
-const WANTED: Counts = Counts { settle: 2_194, check_sheet: 750, scripts: 1_647, lines: 185_826 };
+const WANTED: Counts = Counts { settle: 2_194, check_sheet: 750, scripts: 1_647, lines: 187_100 };
 
 fn main() {
     let start = Instant::now();
