@@ -16,6 +16,13 @@ row-same : (left right left2 right2 : List ℕ) (j k m : ℕ) → rowOf left2 k 
     → Holds (rowOf left2 k) (rowOf right2 k) m
 row-same left right left2 right2 j k m a b h = rw (a, b) h
 
+-- Rows that are written make no more rows.
+pub set-rows : (t t2 : List ℕ) (i x : ℕ) → RowSet t i x t2 → rowCount t2 ≡ rowCount t
+set-rows t t2 i x w = same-rows t2 t (w .size)
+
+pub copied-rows : (t from t2 : List ℕ) (at i : ℕ) → RowsSet t at from i t2 → rowCount t2 ≡ rowCount t
+copied-rows t from t2 at i w = same-rows t2 t (w .size)
+
 -- The same rows, as far as they are counted.
 pub rows-same : (left right left2 right2 : List ℕ) (count total : ℕ) → count ≤ total → ((k : ℕ) → k < count → rowOf left2 k ≡ rowOf left k)
     → ((k : ℕ) → k < count → rowOf right2 k ≡ rowOf right k) → Follow left right total left2 right2 count

@@ -6,20 +6,19 @@ use mathlib.Core.Path.{_≡_, refl, _∙_}
 use Prim.Native.Nat.{_-_}
 use Rattle.atoms.specs.Words.{rowCount}
 use Rattle.sat.specs.Learning.{Kept}
-use Rattle.sat.proofs.Rows.{kept-none, kept-more}
+use Rattle.sat.proofs.Rows.{set-rows, kept-none, kept-more}
 use Rattle.sat.proofs.Table.{row-holds}
 use Rattle.sat.proofs.longer.keep.Statement.{statement}
 use Rattle.sat.proofs.longer.keep.Tie as tie
 
 abbrev Inv-loop : tie.InvT-loop
 Inv-loop long-left long-right own total kept₀ rows from i₀ kept i =
-    (length kept ≡ length kept₀) × Kept long-left long-right total kept i
+    (length kept ≡ length kept₀) × Kept long-left long-right total kept i × (rowCount kept ≡ rowCount kept₀)
 
 abbrev μ-loop : tie.MeasureT-loop
 μ-loop long-left long-right own total kept₀ rows from i₀ kept i = rows - i
 
 loop-again : tie.Need-loop-again Inv-loop μ-loop
-unfolding rowCount
 loop-again c =
     let right = c .before .before in
     let left = right .before .before .before .before .before in
@@ -27,8 +26,9 @@ loop-again c =
     let at = turn .before in (
       right .set-row2 .ensures .size ∙ left .set-row .ensures .size ∙ at .loop .inv .0,
       kept-more _ _ _ _ _ _ _ _ _ (at .loop .inv .1) (left .set-row .ensures) (right .set-row2 .ensures)
-          (omega (arith, at .loop .inv .0, at .before .fewer .ensures .0, at .before .before .rows .ensures))
+          (omega (arith, at .loop .inv .2, at .before .fewer .ensures .0, at .before .before .rows .ensures))
           (λ m h. row-holds _ _ m _ _ _ (left .before .row .ensures) (right .before .row2 .ensures) _ (omega arith) h),
+      set-rows _ _ _ _ (right .set-row2 .ensures) ∙ set-rows _ _ _ _ (left .set-row .ensures) ∙ at .loop .inv .2,
     )
 
 pub keep-spec : {M : Type 1} → statement M
@@ -41,7 +41,7 @@ keep-spec =
     (λ c. omega arith)
     (λ c κs. search needs)
     (λ c. omega arith)
-    (λ c. (refl, kept-none _ _ _ _))
+    (λ c. (refl, kept-none _ _ _ _, refl))
     (λ c. omega arith)
     (λ c. omega arith)
     (λ c κs. search needs)
