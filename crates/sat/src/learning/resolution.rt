@@ -27,7 +27,7 @@ pub fn row<'a>(left: &'a [u64], right: &'a [u64], c: usize) -> Clause
 }
 
 // The resolvent of two clauses on an atom: it is taken from the right side of one and from the left side of the other.
-pub fn resolved(k: Clause, by: Clause, atom: u8) -> Clause
+fn resolved(k: Clause, by: Clause, atom: u8) -> Clause
     ensures { λ c. ⌜ ((m : ℕ) → ClauseHolds k m → ClauseHolds by m → ClauseHolds c m) ⌝ }
 {
     let x = AtomSet::single(atom);
