@@ -1,4 +1,6 @@
 // Sets of atoms. Atom i counts 2^i; every function is total, for any number and any set.
+#![tactic(auto)]
+
 ghost use Rattle.std.specs.Prelude.{true, ◌≡◌, ◌+◌, ◌*◌, ◌/◌, ◌%◌, ◌^◌, ◌<◌, eqb, leb, ltb};
 ghost use Rattle.atoms.specs.Sets.{limit, has, union, common, minus, within, meets, without_lowest};
 ghost use Rattle.atoms.specs.Bytes.{digits, number_at, put_at};
@@ -12,20 +14,20 @@ pub const WORDS: usize = 1;
 // How many atoms there is room for.
 pub const LIMIT: u8 = 64;
 
-#[derive(Drop)]
+#[derive(Clone, Copy)]
 pub struct AtomSet {
     pub bits: u64,
 }
 
 // A set's number in base ten: the last digit, and the number without it.
-#[derive(Drop)]
+#[derive(Clone, Copy)]
 pub struct Tenth {
     pub rest: AtomSet,
     pub digit: u8,
 }
 
 // Whether a number with a further digit is that of a set, and the set.
-#[derive(Drop)]
+#[derive(Clone, Copy)]
 pub struct Longer {
     pub fits: bool,
     pub set: AtomSet,

@@ -1,4 +1,6 @@
 // For the benchmarks: the classical question, to be timed beside a copy in C, and lists of calls, to be timed beside scripts.
+#![tactic(auto)]
+
 ghost use Rattle.std.specs.Prelude.{◌≡◌, ◌/◌, ◌<◌, length};
 ghost use Rattle.prover.specs.Calls.{flat_of};
 ghost use Rattle.bench.specs.Exported.{Asked};

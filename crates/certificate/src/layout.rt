@@ -8,13 +8,13 @@ use super::reader::Row;
 use super::{Contents, places, reader};
 
 // The rows that an entry tells, and the position after it.
-#[derive(Drop)]
+#[derive(Clone, Copy)]
 pub enum Entry {
     Rows(u32, usize),
     Missing,
 }
 
-#[derive(Drop)]
+#[derive(Clone, Copy)]
 pub enum Layout {
     Read(Contents),
     Refused(u8),

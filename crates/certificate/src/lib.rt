@@ -1,4 +1,6 @@
 // Certificates (document 01: answer sheets): read, judged, and read back.
+#![tactic(auto)]
+
 ghost use Rattle.std.specs.Prelude.{◌≡◌};
 ghost use Rattle.certificate.specs.Judge.{judge, judge_read, wrong_place};
 ghost use Rattle.certificate.specs.Checked.{judgement_of, BeginningChecked, problem_by, claim_by, Sized, Ranged, place_of};
@@ -21,7 +23,7 @@ mod ranges;
 mod rows;
 
 // How many rows each body has, a number of 32 bits as its length is; whether the last one holds worlds or steps.
-#[derive(Drop)]
+#[derive(Clone, Copy)]
 pub struct Contents {
     pub flats: u32,
     pub implications: u32,
@@ -30,28 +32,28 @@ pub struct Contents {
 }
 
 // Accepted, or the number of the refusal with the place of a wrong claim.
-#[derive(Drop)]
+#[derive(Clone, Copy)]
 pub enum Checked {
     Accepted(Contents),
     Refused(u8, usize),
 }
 
 // The first step or world that is wrong; the number of steps where only the goal fails.
-#[derive(Drop)]
+#[derive(Clone, Copy)]
 pub enum Wrong {
     Nothing,
     At(usize),
 }
 
 // (left, right)
-#[derive(Drop)]
+#[derive(Clone, Copy)]
 pub struct FlatRow {
     pub left: AtomSet,
     pub right: AtomSet,
 }
 
 // (a → b) → c
-#[derive(Drop)]
+#[derive(Clone, Copy)]
 pub struct ImplicationRow {
     pub a: u8,
     pub b: u8,
@@ -59,7 +61,7 @@ pub struct ImplicationRow {
 }
 
 // The number of an implication, and A.
-#[derive(Drop)]
+#[derive(Clone, Copy)]
 pub struct StepRow {
     pub number: u8,
     pub assumed: AtomSet,

@@ -7,21 +7,21 @@ use super::places::ENTRY_BYTES;
 use atoms::little_endian::number;
 
 // One entry of the contents: kind, start and length; or fewer bytes than it has.
-#[derive(Drop)]
+#[derive(Clone, Copy)]
 pub enum Row {
     Entry(u8, u64, u64),
     End,
 }
 
 // An entry, and the position after it.
-#[derive(Drop)]
+#[derive(Clone, Copy)]
 pub struct Taken {
     pub row: Row,
     pub next: usize,
 }
 
 // The lent bytes and a position.
-#[derive(Drop)]
+#[derive(Clone, Copy)]
 struct Reader<'a> {
     src: &'a [u8],
     at: usize,

@@ -1,4 +1,6 @@
 // Writes the certificate (document 01: answer sheet) of the verdict that a session holds.
+#![tactic(auto)]
+
 ghost use Rattle.std.specs.Prelude.{◌≡◌};
 ghost use Rattle.certify.specs.Written.{length_told, Written};
 
@@ -8,7 +10,7 @@ mod rows;
 mod sheet;
 
 // A length in bytes, or the number of the refusal.
-#[derive(Drop)]
+#[derive(Clone, Copy)]
 pub enum Length {
     Bytes(usize),
     Refused(u8),

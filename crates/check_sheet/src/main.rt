@@ -1,4 +1,6 @@
 // Reads a certificate (document 01: an answer sheet) from standard input and says whether it is accepted.
+#![tactic(auto)]
+
 use streams::Input;
 
 // Room for every certificate in range; of a longer one the beginning and the length decide.

@@ -1,4 +1,6 @@
 // From a text to its clauses and goal, and to its verdict.
+#![tactic(auto)]
+
 ghost use Rattle.std.specs.Prelude.{◌≡◌, max};
 ghost use Rattle.prover.specs.State.{book};
 ghost use Rattle.prover.specs.Calls.{NothingHeld};
@@ -18,7 +20,7 @@ mod implication_clauses;
 mod naming;
 
 // A text's session and goal; or the number of a refusal and its place, with the empty session of one atom and the goal ⊥.
-#[derive(Drop)]
+#[derive(Clone, Copy)]
 pub struct Clausified {
     pub refusal: u8,
     pub place: usize,
@@ -27,7 +29,7 @@ pub struct Clausified {
 }
 
 // The verdict on a text, the session that it was asked of, and the goal.
-#[derive(Drop)]
+#[derive(Clone, Copy)]
 pub struct Settled {
     pub verdict: Verdict,
     pub session: Session,

@@ -8,14 +8,14 @@ ghost use Rattle.clausify.specs.Writing.{Passed, NamesOf};
 use syntax::{Part, Parts};
 
 // The atom of each part, and how many atoms there are.
-#[derive(Drop)]
+#[derive(Clone, Copy)]
 pub struct Names {
     pub atoms: [u8; syntax::PARTS],
     pub count: u8,
 }
 
 // The atom of a part that was passed, the next letter's atom, and the next name.
-#[derive(Drop)]
+#[derive(Clone, Copy)]
 struct Next {
     atom: u8,
     letter: u8,

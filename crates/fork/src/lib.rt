@@ -1,4 +1,6 @@
 // A first screen: a formula of at most three letters is worked out on the four-tipped fork, where most wrong conjectures already fall.
+#![tactic(auto)]
+
 ghost use Rattle.std.specs.Prelude.{◌<◌, length};
 ghost use Rattle.syntax.specs.Judge.{judge};
 ghost use Rattle.syntax.specs.Parts.{held};
@@ -22,7 +24,7 @@ pub const SETS: usize = WHOLE as usize + 1;
 pub const MOST_LETTERS: u8 = 3;
 
 // A refusal's number and place; or whether the formula gets the whole under every assignment.
-#[derive(Drop)]
+#[derive(Clone, Copy)]
 pub enum Outcome {
     Refused(u8, usize),
     Passes,
@@ -30,7 +32,7 @@ pub enum Outcome {
 }
 
 // Where a formula falls, the sets of its letters in order of first standing; else none.
-#[derive(Drop)]
+#[derive(Clone, Copy)]
 pub struct Screened {
     pub outcome: Outcome,
     pub letters: u8,

@@ -1,4 +1,6 @@
 // Writes the table of implications of the four-tipped fork's 17 sets, worked out from the definition: line a has those of a and each set.
+#![tactic(auto)]
+
 ghost use Rattle.std.specs.Prelude.{◌++◌, ◌≡◌};
 ghost use Rattle.fork.specs.Algebra.{meet, within, is_implication, implication};
 ghost use Rattle.text.specs.Text.{decimal};

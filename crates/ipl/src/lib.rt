@@ -1,5 +1,7 @@
 // Intuitionistic propositional logic: definitions in specs/, theorems in proofs/. In code: ⊥, the sizes of the tables, and the tests
 // of ranges.
+#![tactic(auto)]
+
 ghost use Rattle.std.specs.Prelude.{◌≡◌};
 ghost use Rattle.atoms.specs.Words.{num};
 ghost use Rattle.ipl.specs.Range.{atom_or_bot, set_in_range, flat_in_range, implication_in_range};

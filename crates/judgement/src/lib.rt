@@ -1,4 +1,6 @@
 // What is printed of a certificate (document 01: an answer sheet): that it is accepted, or its refusal.
+#![tactic(auto)]
+
 ghost use Rattle.text.specs.Output.{Appends};
 ghost use Rattle.judgement.specs.Report.{accepted_line, check_report_of, Judged};
 

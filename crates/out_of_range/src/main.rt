@@ -1,6 +1,8 @@
 // Executed cases that no script can say: sessions and verdicts that no call gives, the ends of an author's counts, buffers of every
 // length, records that hold something.
 // `stdout` was worked out apart from this code.
+#![tactic(auto)]
+
 use atoms::AtomSet;
 use certify::Length;
 use libc::STDOUT_FILENO;

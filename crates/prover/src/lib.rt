@@ -1,4 +1,6 @@
 // A session: it holds clauses, decides whether they force a goal, keeps what it learned, comes back to marks, and counts for whom it worked.
+#![tactic(auto)]
+
 ghost use Rattle.std.specs.Prelude.{◌≡◌, ◌+◌, ◌≤◌};
 ghost use Rattle.prover.specs.Calls.{Opened, FlatAdded, ImplicationAdded, Asked, MarkSet, MarkReturned, mean_told};
 ghost use Rattle.ipl.specs.Page.{goal_table};
@@ -21,14 +23,14 @@ pub use counting::work_of;
 // Whether a call on the session meets no refusal 5.
 pub use range::in_range;
 
-#[derive(Drop)]
+#[derive(Clone, Copy)]
 pub struct Flats {
     pub count: usize,
     pub left: [u64; ipl::FLATS * atoms::WORDS],
     pub right: [u64; ipl::FLATS * atoms::WORDS],
 }
 
-#[derive(Drop)]
+#[derive(Clone, Copy)]
 pub struct Implications {
     pub count: usize,
     pub a: [u8; ipl::IMPLICATIONS],
@@ -37,21 +39,21 @@ pub struct Implications {
 }
 
 // Learned steps: an implication's number and the set assumed.
-#[derive(Drop)]
+#[derive(Clone, Copy)]
 pub struct Steps {
     pub count: usize,
     pub numbers: [u8; ipl::STEPS],
     pub assumed: [u64; ipl::STEPS * atoms::WORDS],
 }
 
-#[derive(Drop)]
+#[derive(Clone, Copy)]
 pub struct Worlds {
     pub count: usize,
     pub sets: [u64; ipl::WORLDS * atoms::WORDS],
 }
 
 // A mark's number, and how many flat clauses, implications and steps it remembers.
-#[derive(Drop)]
+#[derive(Clone, Copy)]
 pub struct Mark {
     pub number: u8,
     pub flats: usize,
@@ -60,27 +62,27 @@ pub struct Mark {
 }
 
 // In the order in which they were last set. There is a row more than there are numbers, so that one more always has room.
-#[derive(Drop)]
+#[derive(Clone, Copy)]
 pub struct Marks {
     pub count: usize,
     pub rows: [Mark; ipl::MARKS + 1],
 }
 
 // The classical questions of an author's goals that were decided, and how many goals these were.
-#[derive(Drop)]
+#[derive(Clone, Copy)]
 pub struct Work {
     pub questions: u32,
     pub verdicts: u32,
 }
 
 // A row for each author.
-#[derive(Drop)]
+#[derive(Clone, Copy)]
 pub struct Authors {
     pub rows: [Work; ipl::AUTHORS],
 }
 
 // The last verdict with its goal, until a clause is added or a mark returned to.
-#[derive(Drop)]
+#[derive(Clone, Copy)]
 pub enum Held {
     Nothing,
     Valid(u8),
@@ -88,7 +90,7 @@ pub enum Held {
 }
 
 // Unused rows of the tables are never looked at.
-#[derive(Drop)]
+#[derive(Clone, Copy)]
 pub struct Session {
     pub n: u8,
     pub flats: Flats,
@@ -101,14 +103,14 @@ pub struct Session {
 }
 
 // The number of a refusal, or 0; and the session that the caller goes on with.
-#[derive(Drop)]
+#[derive(Clone, Copy)]
 pub struct Changed {
     pub refusal: u8,
     pub session: Session,
 }
 
 // Valid, with the count of steps held; refuted, with the count of worlds; or refused, with a number and a place, which is 0 here.
-#[derive(Drop)]
+#[derive(Clone, Copy)]
 pub enum Verdict {
     Valid(usize),
     Refuted(usize),
@@ -116,14 +118,14 @@ pub enum Verdict {
 }
 
 // The answer to a question, and the session that the caller goes on with.
-#[derive(Drop)]
+#[derive(Clone, Copy)]
 pub struct Answered {
     pub verdict: Verdict,
     pub session: Session,
 }
 
 // Whole questions per verdict, and the remainder; or refused, with a number.
-#[derive(Drop)]
+#[derive(Clone, Copy)]
 pub enum PerVerdict {
     Questions(u32, u32),
     Refused(u8),
@@ -131,7 +133,7 @@ pub enum PerVerdict {
 
 // What a page says of a goal: valid, with the count of steps held; refuted by its own search, with the count of worlds, or by the
 // model of an earlier goal, with that goal's place; or refused, with a number. No page leaves a goal open.
-#[derive(Drop)]
+#[derive(Clone, Copy)]
 pub enum GoalAnswer {
     Open,
     Valid(usize),
@@ -141,7 +143,7 @@ pub enum GoalAnswer {
 }
 
 // A goal of a page, the place for its answer, and beside it the worlds of its own search.
-#[derive(Drop)]
+#[derive(Clone, Copy)]
 pub struct GoalRecord {
     pub goal: u8,
     pub answer: GoalAnswer,
@@ -149,14 +151,14 @@ pub struct GoalRecord {
 }
 
 // Records for a page, by value: the first `count` of them. There is a row more than a page may have, so that one too many can be lent.
-#[derive(Drop)]
+#[derive(Clone, Copy)]
 pub struct Records {
     pub count: usize,
     pub rows: [GoalRecord; ipl::GOALS + 1],
 }
 
 // What a page returned, and its records then.
-#[derive(Drop)]
+#[derive(Clone, Copy)]
 pub struct Paged {
     pub changed: Changed,
     pub records: Records,

@@ -11,7 +11,7 @@ use super::{Changed, GoalAnswer, GoalRecord, Session, Verdict, Worlds, counting,
 use atoms::AtomSet;
 
 // The models that searches of this page found, in order: the place of the goal, and the root.
-#[derive(Drop)]
+#[derive(Clone, Copy)]
 pub struct Models {
     pub count: usize,
     pub places: [usize; ipl::GOALS],
@@ -19,7 +19,7 @@ pub struct Models {
 }
 
 // `at` is the place of the record to take next, and `count` how many there are to take: none where the page is refused.
-#[derive(Drop)]
+#[derive(Clone, Copy)]
 pub struct Page {
     pub session: Session,
     pub models: Models,
@@ -31,14 +31,14 @@ pub struct Page {
 }
 
 // The page after a record was taken, and what the record then is.
-#[derive(Drop)]
+#[derive(Clone, Copy)]
 pub struct Taken {
     pub page: Page,
     pub rec: GoalRecord,
 }
 
 // A model found earlier, by the place of its goal, or none.
-#[derive(Drop)]
+#[derive(Clone, Copy)]
 enum Model {
     Of(usize),
     None,

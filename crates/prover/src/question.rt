@@ -16,7 +16,7 @@ use atoms::AtomSet;
 use sat::Answer;
 
 // Where the search stands in its tables: the counts, the questions so far, the pair to look at next, and the rows kept.
-#[derive(Drop)]
+#[derive(Clone, Copy)]
 pub struct Progress {
     pub flats: usize,
     pub steps: usize,
@@ -26,7 +26,7 @@ pub struct Progress {
     pub kept: usize,
 }
 
-#[derive(Drop)]
+#[derive(Clone, Copy)]
 enum Turned {
     Valid,
     Refuted,
@@ -35,7 +35,7 @@ enum Turned {
 }
 
 // How a search ends, and where; at a verdict of valid the last question is not yet counted.
-#[derive(Drop)]
+#[derive(Clone, Copy)]
 pub enum End {
     Valid(Progress),
     Refuted(Progress),

@@ -68,7 +68,7 @@ fn first_at(sets: &[u64], count: usize, w: usize, x: Implications, from: usize) 
 }
 
 // A world by its place, and an implication by its number.
-#[derive(Drop)]
+#[derive(Clone, Copy)]
 pub struct Pair {
     pub world: usize,
     pub implication: usize,

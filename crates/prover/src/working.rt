@@ -11,7 +11,7 @@ use super::{Flats, Implications, Steps};
 use atoms::AtomSet;
 
 // What is left of a set, and how many rows are kept.
-#[derive(Drop)]
+#[derive(Clone, Copy)]
 pub struct Dropped {
     pub rest: AtomSet,
     pub kept: usize,

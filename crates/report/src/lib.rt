@@ -1,4 +1,6 @@
 // What is printed of a verdict, of a settled text and of a screened one.
+#![tactic(auto)]
+
 ghost use Rattle.std.specs.Prelude.{length};
 ghost use Rattle.prover.specs.State.{steps_of, worlds_of};
 ghost use Rattle.report.specs.Report.{valid_report, refuted_report, report_with, report_of};

@@ -27,7 +27,7 @@ const STARTS: u64 = 1 << 20;
 
 // How exploring ends: with a clause that fails at what is known; with one that was learned, at its row; with a model; or for want of
 // room.
-#[derive(Drop)]
+#[derive(Clone, Copy)]
 enum End {
     Conflict(Clause),
     Learned(usize),
@@ -36,7 +36,7 @@ enum End {
 }
 
 // The end, and the number of rows.
-#[derive(Drop)]
+#[derive(Clone, Copy)]
 struct Outcome {
     total: usize,
     end: End,
@@ -44,7 +44,7 @@ struct Outcome {
 
 // Where the learning stands: the number of rows, the model met last, the atom from which on all are decided in falling order, and
 // whether it is over.
-#[derive(Drop)]
+#[derive(Clone, Copy)]
 pub struct Stage {
     pub total: usize,
     pub model: AtomSet,

@@ -1,4 +1,6 @@
 // Classical questions: do the clauses of a table and a set of atoms prove an atom? If not, the smallest model that says so.
+#![tactic(auto)]
+
 ghost use Rattle.std.specs.Prelude.{◌≡◌, min};
 ghost use Rattle.atoms.specs.Sets.{limit};
 ghost use Rattle.atoms.specs.Words.{num};
@@ -23,35 +25,35 @@ use search::Found;
 const PATIENCE: u64 = 8;
 
 // What is known of a model: atoms that it has, and atoms that it lacks.
-#[derive(Drop)]
+#[derive(Clone, Copy)]
 struct Partial {
     has: AtomSet,
     lacks: AtomSet,
 }
 
 // Yes: proved. No: the smallest model that has the atoms given and lacks the atom asked for.
-#[derive(Drop)]
+#[derive(Clone, Copy)]
 pub enum Answer {
     Proved,
     Countered(AtomSet),
 }
 
 // An answer, or the start of a search that gave up.
-#[derive(Drop)]
+#[derive(Clone, Copy)]
 enum First {
     Answered(Answer),
     GaveUp(Partial),
 }
 
 // The answer, and how many rows are then kept.
-#[derive(Drop)]
+#[derive(Clone, Copy)]
 pub struct Asked {
     pub answer: Answer,
     pub kept: usize,
 }
 
 // Whether it is proved, and how many rows are then kept.
-#[derive(Drop)]
+#[derive(Clone, Copy)]
 pub struct Proof {
     pub proved: bool,
     pub kept: usize,

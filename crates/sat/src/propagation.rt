@@ -8,14 +8,14 @@ ghost use Rattle.sat.specs.Knowledge.{Fair, may_tell, PassedSilent, Forces, Prop
 use super::{Partial, known};
 use atoms::AtomSet;
 
-#[derive(Drop)]
+#[derive(Clone, Copy)]
 enum Forced {
     Conflict,
     Known(Partial),
 }
 
 // What propagation comes to: a conflict; a model, which are the atoms known to be had; or what is known.
-#[derive(Drop)]
+#[derive(Clone, Copy)]
 pub enum Propagated {
     Conflict,
     Model(Partial),

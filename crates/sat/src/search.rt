@@ -12,7 +12,7 @@ use atoms::AtomSet;
 const NO_LIMIT: u64 = 0xffff_ffff_ffff_ffff;
 
 // The smallest model; that there is none, and how many conflicts may still be met; or that too many were met.
-#[derive(Drop)]
+#[derive(Clone, Copy)]
 pub enum Found {
     Least(AtomSet),
     Blocked(u64),
@@ -20,7 +20,7 @@ pub enum Found {
 }
 
 // An answer, or what is then known and the highest open atom.
-#[derive(Drop)]
+#[derive(Clone, Copy)]
 enum Step {
     Least(AtomSet),
     Blocked,

@@ -23,14 +23,14 @@ use certify::Length;
 use prover::{PerVerdict, Session};
 
 // The session that the script goes on with, and how many bytes were written of what is printed.
-#[derive(Drop)]
+#[derive(Clone, Copy)]
 pub struct Answer {
     pub session: Session,
     pub length: usize,
 }
 
 // The calls that need large tables, of a reader, of records or of a sheet: their frame is not that of every line's answer.
-#[derive(Drop)]
+#[derive(Clone, Copy)]
 enum Large {
     Text(usize),
     Page(usize),

@@ -1,5 +1,7 @@
 // Scripts of calls: from a line's bytes to a call, and from a session and a line to the next session and the bytes printed. A script
 // is read in pieces; of the line that has begun as many bytes are kept as a call can have.
+#![tactic(auto)]
+
 ghost use Rattle.std.specs.Prelude.{◌&&◌, ◌≡◌, min};
 ghost use Rattle.script.specs.Command.{is_blank};
 ghost use Rattle.script.specs.Transcript.{number_after};
@@ -22,14 +24,14 @@ pub const LINE: usize = reading::MOST_BYTES + 1;
 pub const OUTPUT: usize = 524288;
 
 // The line that has begun: how many of its bytes are kept, and whether all that came are spaces.
-#[derive(Drop)]
+#[derive(Clone, Copy)]
 pub struct Pending {
     pub length: usize,
     pub blank: bool,
 }
 
 // The line after a step, the place in the piece where the step ended, and whether the line ends there.
-#[derive(Drop)]
+#[derive(Clone, Copy)]
 pub struct Gathered {
     pub pending: Pending,
     pub at: usize,

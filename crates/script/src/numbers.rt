@@ -12,14 +12,14 @@ use atoms::AtomSet;
 const MOST_BYTE: usize = 255;
 
 // A number that a byte has room for, or none.
-#[derive(Drop)]
+#[derive(Clone, Copy)]
 pub enum Byte {
     Is(u8),
     None,
 }
 
 // A number that is a set's, or none.
-#[derive(Drop)]
+#[derive(Clone, Copy)]
 pub enum Set {
     Is(AtomSet),
     None,

@@ -12,7 +12,7 @@ use atoms::AtomSet;
 // The most bytes of a call, without the byte 10 that ends its line.
 pub const MOST_BYTES: usize = 32768;
 
-#[derive(Drop)]
+#[derive(Clone, Copy)]
 pub enum Verb {
     Open,
     Text,
@@ -31,7 +31,7 @@ pub enum Verb {
 }
 
 // The goals of a page and its author: whether the words are that, and as many goals as there are rows, one more than a page may have.
-#[derive(Drop)]
+#[derive(Clone, Copy)]
 pub struct Goals {
     pub complete: bool,
     pub author: u8,
@@ -41,7 +41,7 @@ pub struct Goals {
 
 // What a line asks for: of a question the author stands first; texts and the goals of a page start at a place, a sheet's digits stand
 // between two places.
-#[derive(Drop)]
+#[derive(Clone, Copy)]
 pub enum Call {
     Silent,
     NoCall,
@@ -61,13 +61,13 @@ pub enum Call {
 }
 
 // An argument's value and the place behind it, or no such argument.
-#[derive(Drop)]
+#[derive(Clone, Copy)]
 enum ByteArgument {
     Is(u8, usize),
     None,
 }
 
-#[derive(Drop)]
+#[derive(Clone, Copy)]
 enum SetArgument {
     Is(AtomSet, usize),
     None,

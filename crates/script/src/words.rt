@@ -5,7 +5,7 @@ ghost use Rattle.script.specs.Places.{Indent, NextWord};
 const SPACE: u8 = b' ';
 
 // A word is the bytes from `start` up to `end`; there is none where the two are the same.
-#[derive(Drop)]
+#[derive(Clone, Copy)]
 pub struct Word {
     pub start: usize,
     pub end: usize,

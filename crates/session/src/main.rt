@@ -1,4 +1,6 @@
 // Reads a script of calls from standard input and prints the answer to each.
+#![tactic(auto)]
+
 ghost use Rattle.std.specs.Prelude.{true, ◌≡◌, ◌≤◌, length};
 ghost use Rattle.script.specs.Run.{output_room, LinesAnswered, Through};
 
@@ -14,7 +16,7 @@ const PIECE: usize = 65536;
 const ANSWERS: usize = script::OUTPUT + 32768;
 
 // A script that is being read: its session, the line that has begun, and that line's number.
-#[derive(Drop)]
+#[derive(Clone, Copy)]
 struct Script {
     session: Session,
     pending: Pending,
@@ -22,7 +24,7 @@ struct Script {
 }
 
 // After lines of a piece: the place up to which it was read, and how many bytes of the output the answers are.
-#[derive(Drop)]
+#[derive(Clone, Copy)]
 struct Answers {
     script: Script,
     at: usize,
@@ -30,7 +32,7 @@ struct Answers {
 }
 
 // After a piece, and whether there is more to do: no input or output failed, and the input has not ended.
-#[derive(Drop)]
+#[derive(Clone, Copy)]
 struct Reached {
     script: Script,
     more: bool,

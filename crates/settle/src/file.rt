@@ -5,7 +5,7 @@ ghost use Rattle.io.specs.Counts.{IsPrefixLen};
 use atoms::little_endian;
 use libc::PATH_MAX;
 
-#[derive(Drop)]
+#[derive(Clone, Copy)]
 enum Kind {
     // A regular file, or none yet.
     Replaced,

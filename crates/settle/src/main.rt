@@ -1,5 +1,7 @@
 // Settles the formula on standard input and prints the verdict with its figures. With an argument, the name of a file, it also writes
 // the verdict's answer sheet there.
+#![tactic(auto)]
+
 ghost use Rattle.text.specs.Output.{Gives};
 ghost use Rattle.report.specs.Printed.{printed, sheet};
 ghost use Rattle.settle.specs.Input.{FormulaLength, formula};

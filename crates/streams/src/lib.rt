@@ -1,10 +1,12 @@
 // Standard input and output of the programs. No contract can say what is read or written; every failure is told on standard error.
+#![tactic(auto)]
+
 ghost use Rattle.streams.specs.Input.{Within, AtMost};
 
 use libc::{STDERR_FILENO, STDIN_FILENO, STDOUT_FILENO};
 
 // How many bytes came; or a read failed, and it was told.
-#[derive(Drop)]
+#[derive(Clone, Copy)]
 pub enum Input {
     Bytes(usize),
     Failed,

@@ -105,7 +105,7 @@ pub fn past_spaces(s: &[u8], at: usize) -> usize
     i
 }
 
-#[derive(Drop)]
+#[derive(Clone, Copy)]
 pub struct Token {
     pub class: u8,
     pub next: usize,

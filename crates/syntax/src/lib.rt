@@ -1,4 +1,6 @@
 // The reader of formula text: any bytes to the parts of a formula, or the first refusal of 1 to 4 that the text meets.
+#![tactic(auto)]
+
 ghost use Rattle.std.specs.Prelude.{◌≡◌};
 ghost use Rattle.syntax.specs.Answer.{Answers, Refuses};
 ghost use Rattle.syntax.specs.Letters.{letters_in};
@@ -19,7 +21,7 @@ const MOST_NAMES: usize = 64;
 // The rows of a table of parts: letters and names, and ⊥.
 pub const PARTS: usize = MOST_NAMES + 1;
 
-#[derive(Drop)]
+#[derive(Clone, Copy)]
 pub enum Connective {
     And,
     Or,
@@ -27,34 +29,34 @@ pub enum Connective {
 }
 
 // The parts of a compound are earlier nodes, by index. ⊥ stands first: a table of it is zeros, for which no constant data is needed.
-#[derive(Drop)]
+#[derive(Clone, Copy)]
 pub enum Part {
     Falsum,
     Letter(u8),
     Compound(Connective, u8, u8),
 }
 
-#[derive(Drop)]
+#[derive(Clone, Copy)]
 pub struct Node {
     pub part: Part,
 }
 
 // The first `count` nodes: inner parts before outer ones, left before right, equal ones once.
-#[derive(Drop)]
+#[derive(Clone, Copy)]
 pub struct Parts {
     pub nodes: [Node; PARTS],
     pub count: u8,
 }
 
 // A refusal's number and place, or the index of the whole formula.
-#[derive(Drop)]
+#[derive(Clone, Copy)]
 pub enum Outcome {
     Refusal(u8, usize),
     Formula(u8),
 }
 
 // The parts, and how many of them are letters.
-#[derive(Drop)]
+#[derive(Clone, Copy)]
 pub struct Reading {
     pub outcome: Outcome,
     pub parts: Parts,

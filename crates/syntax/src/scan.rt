@@ -10,7 +10,7 @@ use atoms::AtomSet;
 
 // Each open parenthesis has a level, and so has the text outside them. Whether an `=` has stood at the innermost; how many
 // parentheses are open; and the levels around it, from 0 outside, at which one has stood.
-#[derive(Drop)]
+#[derive(Clone, Copy)]
 struct Levels {
     equated: bool,
     depth: u8,
@@ -18,7 +18,7 @@ struct Levels {
 }
 
 // A token that does not fit; or whether an operand is wanted after it, and the levels.
-#[derive(Drop)]
+#[derive(Clone, Copy)]
 enum Turn {
     Misfit,
     Fits(bool, Levels),
@@ -103,7 +103,7 @@ fn step(operand: bool, levels: Levels, class: u8) -> Turn
     Turn::Misfit
 }
 
-#[derive(Drop)]
+#[derive(Clone, Copy)]
 pub enum Scan {
     Whole,
     Fault(usize),

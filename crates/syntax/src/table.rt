@@ -8,7 +8,7 @@ use super::{Connective, Node, PARTS, Part, Parts};
 
 // An operand that was read: the position after it, and its index in the table. Or it has parts for which the table has no room, and
 // the reading ends.
-#[derive(Drop)]
+#[derive(Clone, Copy)]
 pub struct Parsed {
     pub fits: bool,
     pub next: usize,

@@ -1,5 +1,7 @@
 // Texts made up in a draft and handed over whole. The functions that append are given a draft of which `at` bytes stand, and
 // return how many then stand; bytes for which there is no room are dropped.
+#![tactic(auto)]
+
 ghost use Rattle.std.specs.Prelude.{List, [], ◌∷◌, ◌++◌, ◌≡◌, ℕ, ◌<◌, length};
 ghost use Rattle.atoms.specs.Words.{num};
 ghost use Rattle.text.specs.Text.{decimal, hex_digit, hex, refusal};

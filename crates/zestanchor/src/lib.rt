@@ -1,4 +1,6 @@
 // The library for C and Rust: one function on bytes, with a task. Its parts serve the programs too.
+#![tactic(auto)]
+
 ghost use Rattle.std.specs.Prelude.{List, ◌≡◌, ℕ, length};
 ghost use Rattle.syntax.specs.Judge.{judge};
 ghost use Rattle.clausify.specs.Calls.{SettledAs};
@@ -25,7 +27,7 @@ const SCREEN: u8 = 4;
 const NO_TASK: usize = 0xffff_ffff_ffff_ffff;
 
 // How many bytes of each output were written.
-#[derive(Drop)]
+#[derive(Clone, Copy)]
 pub struct Lengths {
     pub report: usize,
     pub sheet: usize,

@@ -7,7 +7,7 @@ use super::notes::{REASONS, number};
 use atoms::AtomSet;
 
 // A clause, and the atoms that it and those that it was made of have.
-#[derive(Drop)]
+#[derive(Clone, Copy)]
 pub struct Clause {
     pub left: AtomSet,
     pub right: AtomSet,

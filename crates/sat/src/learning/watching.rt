@@ -7,7 +7,7 @@ use atoms::AtomSet;
 
 // Where the search stands: what is known, the atoms known before the last decision, those whose lists are to be looked at, the number
 // that holds the next place of a list, the atom assigned last, and the row that forced it; ROWS where there is none.
-#[derive(Drop)]
+#[derive(Clone, Copy)]
 pub struct Walk {
     pub known: Partial,
     pub before: AtomSet,
