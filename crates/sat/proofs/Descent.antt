@@ -1,5 +1,5 @@
 -- Laws of the search: where propagation ends, the two sides of a decision, and how their answers combine.
-use Rattle.std.proofs.Common.{◌≡◌, ℕ, suc, ◌+◌, ◌-◌, ◌^◌, ◌<◌, ◌≤◌, max, Bool, true, false, sym, ap, ◌∙◌, subst, le_of_lt, arith}
+use Rattle.std.proofs.Common.{◌≡◌, ℕ, suc, ◌+◌, ◌^◌, ◌<◌, ◌≤◌, max, Bool, true, false, sym, ap, ◌∙◌, subst, le_of_lt, arith}
 use native.Mathlib.Decide.{dec_lt, ℕ_discrete}
 use lib.Bits.{or_lt}
 use lib.Pow.{pow-lt}
