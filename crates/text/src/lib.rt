@@ -112,5 +112,6 @@ pub fn hand_over(text: &[u8], n: usize, output: &mut [u8]) -> usize
     if output.len() < n {
         return 0;
     }
-    bytes::copy(&text[..n], output)
+    output[..n].copy_from_slice(&text[..n]);
+    n
 }
