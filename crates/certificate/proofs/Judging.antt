@@ -83,7 +83,7 @@ module _ (s : List ℕ) (k : Contents) (ranged : Ranged s k) where
         let few = steps_few e in record {
           ranged = ranged;
           derives = e;
-          room_left_lem = omega (arith, flats_few, same_rows left l0 l.size, row_count_words l0 (flat_table + step_table) el);
+          room_left = omega (arith, flats_few, same_rows left l0 l.size, row_count_words l0 (flat_table + step_table) el);
           room_right = omega (arith, flats_few, same_rows right r0 r.size, row_count_words r0 (flat_table + step_table) er);
           loaded = columns_loaded s k.flats l0 left r0 right l r;
         }

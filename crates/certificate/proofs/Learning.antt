@@ -161,7 +161,7 @@ module _ (s : List ℕ) (k : Contents) (left0 right0 kept0 : List ℕ) (ready : 
       ranged = ready.ranged;
       derives = ready.derives;
       listed = l;
-      room_left_lem = omega (arith, ready.room_left, same_rows left left0 progress.size_left);
+      room_left = omega (arith, ready.room_left, same_rows left left0 progress.size_left);
       room_right = omega (arith, ready.room_right, same_rows right right0 progress.size_right);
       loaded = progress.loaded;
       follow = progress.follow;

@@ -18,8 +18,8 @@ use Rattle.certificate.specs.declared.reader.Taken.{Taken}
 -- ---- what the core reads
 
 -- The test without a sum that could wrap.
-pub room_left_lem : (at n : ℕ) → entry_bytes ≤ n → leb at (n - entry_bytes) ≡ leb (at + entry_bytes) n
-room_left_lem at n h = T_iff (leb at (n - entry_bytes)) (leb (at + entry_bytes) n)
+pub room_left : (at n : ℕ) → entry_bytes ≤ n → leb at (n - entry_bytes) ≡ leb (at + entry_bytes) n
+room_left at n h = T_iff (leb at (n - entry_bytes)) (leb (at + entry_bytes) n)
     (λ t. le→leb (at + entry_bytes) n (omega (arith, leb→le at (n - entry_bytes) t)))
     (λ t. le→leb at (n - entry_bytes) (omega (arith, leb→le (at + entry_bytes) n t)))
 

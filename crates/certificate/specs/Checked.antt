@@ -114,7 +114,7 @@ pub record ColumnLoaded (s : List ℕ) (start count : ℕ) (before after : List 
 pub record StepsReady (s : List ℕ) (k : Contents) (left right : List ℕ) : Type 0 where
   pub ranged : Ranged s k
   pub derives : k.refuting ≡ false
-  pub room_left_lem : k.flats + k.rows ≤ row_count left
+  pub room_left : k.flats + k.rows ≤ row_count left
   pub room_right : k.flats + k.rows ≤ row_count right
   pub loaded : clauses left right k.flats ≡ flats_in s k.flats
 
@@ -123,7 +123,7 @@ pub record StepReady (s : List ℕ) (k : Contents) (i : ℕ) (left right kept : 
   pub ranged : Ranged s k
   pub derives : k.refuting ≡ false
   pub listed : i < k.rows
-  pub room_left_lem : k.flats + k.rows ≤ row_count left
+  pub room_left : k.flats + k.rows ≤ row_count left
   pub room_right : k.flats + k.rows ≤ row_count right
   pub loaded : clauses left right (k.flats + i) ≡ known (problem_by s k).flats (problem_by s k).implications (take i (steps_by s k))
   pub follow : learning.Kept left right (k.flats + i) kept learned

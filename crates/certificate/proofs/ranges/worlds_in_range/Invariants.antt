@@ -1,0 +1,19 @@
+-- The worlds passed are in range.
+use mathlib.Core.Bool.{true}
+use mathlib.Core.List.{List}
+use mathlib.Core.Path.{◌≡◌}
+use Prim.Native.Nat.{ℕ, ◌+◌, ◌*◌, ◌-◌, ◌≤◌}
+use Rattle.ipl.specs.Lists.{all, tabulate}
+use Rattle.ipl.specs.Range.{set_in_range}
+use Rattle.certificate.specs.Format.{set_bytes}
+use Rattle.certificate.specs.Layout.{world_from}
+use Rattle.certificate.proofs.ranges.worlds_in_range.Given as goal
+
+abbrev pub row : List ℕ → ℕ → ℕ → ℕ
+row s start k = world_from s (start + set_bytes * k)
+
+abbrev pub invariant-loop-i : goal.invariant-loop-i
+invariant-loop-i l = (l.i ≤ l.count) × (all (set_in_range l.n) (tabulate (row l.bytes l.start) l.i) ≡ true)
+
+abbrev pub decreases-loop-i : goal.decreases-loop-i
+decreases-loop-i l = l.count - l.i

@@ -1,2 +1,0 @@
--- What the walks over a reader share.
-mod Held
