@@ -7,9 +7,6 @@ pub mod Works
 pub mod ModelRows
 pub mod Pages
 pub mod Underway
-pub mod Walking
-pub mod Shut
-pub mod Lending
 pub mod Refusals
 pub mod Returns
 pub mod Beyond
