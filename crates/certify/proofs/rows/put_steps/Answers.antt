@@ -1,0 +1,31 @@
+use native.Mathlib.Omega.{arith}
+use mathlib.Core.Path.{refl, ap}
+use Prim.Native.Nat.{ℕ}
+use Rattle.ipl.specs.Search.{Step}
+use Rattle.prover.specs.State as S
+use Rattle.certificate.specs.Format.{step_bytes, step_row}
+use Rattle.certificate.proofs.Encoding.{length_step}
+use Rattle.certify.proofs.Bodies.{rows_none, rows_next, rows_end}
+use Rattle.certify.proofs.rows.put_steps.Goals as goal
+
+pub loop-i-init : goal.loop-i-init
+loop-i-init c = (omega arith, refl, rows_none step_row step_bytes length_step _ _ _)
+
+pub loop-i-preserved : goal.loop-i-preserved
+loop-i-preserved c =
+    let t = c.args.t in
+    let i = c.loop-i.i in (
+      omega arith,
+      omega arith,
+      rows_next step_row step_bytes length_step (S.step_row t) _ _ _ _ i t.count _ (omega arith) c.requires.0 c.loop-i.invariant.2
+          c.put_step.ensures (ap {B = Step} (λ (x : ℕ). record { number = S.byte_at t.numbers i; assumed = x }) c.row.ensures),
+    )
+
+pub shape_of-buffer : goal.shape_of-buffer
+shape_of-buffer c = c.loop-i.invariant.1
+
+pub returns : goal.returns
+returns c =
+    let t = c.args.t in
+    let i = c.loop-i.i in
+    rows_end step_row step_bytes length_step (S.step_row t) _ _ _ i t.count (omega arith) (omega arith) c.loop-i.invariant.2
