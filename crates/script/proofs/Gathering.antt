@@ -6,11 +6,11 @@ use Prim.Native.Nat.{ℕ, suc, ◌+◌, ◌-◌, ◌≤◌, ◌<◌}
 use native.Mathlib.Omega.{arith}
 use lib.Dec.{eqb}
 use lib.ListN.{length, take, drop, get_or, length-drop, drop_of_length-le}
-use lib.Seq.{take_all, take-length, split_at, drop-drop, drop-length}
+use lib.Seq.{take_all, split_at, drop-drop, drop-length}
 use borrow.Author.Tests.{eqb-true, eqb-false}
-use Rattle.bytes.specs.Bytes.{slice, index_after, index_of}
 use Rattle.ipl.proofs.Lists.{All_append}
 use Rattle.text.specs.Output.{Appends}
+use Rattle.script.specs.Places.{index_after, index_of}
 use Rattle.script.specs.Words.{line_feed}
 use Rattle.script.specs.Command.{is_blank}
 use Rattle.script.specs.Pieces.{OneLine, Begun, Longer, GatheredFrom}
@@ -49,13 +49,12 @@ at_feed (x ∷ l) h = go (eqb x line_feed) refl (at_feed l) h
     go true e f h = eqb-true x line_feed e
     go false e f h = f (omega arith)
 
-module _ (piece : List ℕ) (from end : ℕ) (inside : from < length piece) (found : end ≡ from + index_of line_feed (slice from (length piece) piece)) where
+module _ (piece : List ℕ) (from end : ℕ) (inside : from < length piece) (found : end ≡ from + index_of line_feed (drop from piece)) where
   abbrev input : List ℕ
   input = drop from piece
 
   index_is : index_of line_feed input ≡ end - from
-  unfolding slice
-  index_is = let e : end ≡ from + index_of line_feed input = rw (take-length piece) at found in omega arith
+  index_is = omega (arith, found)
 
   pub no_feed : OneLine (take (end - from) input)
   no_feed = subst (λ (n : ℕ). OneLine (take n input)) index_is (before_feed input)

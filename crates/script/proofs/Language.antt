@@ -15,7 +15,7 @@ use Rattle.ipl.specs.Lists.{all}
 use Rattle.ipl.specs.Authors.{program}
 use Rattle.ipl.specs.Book.{question, set_mark, return_to, page}
 use Rattle.text.specs.Text.{ascii, hex}
-use Rattle.bytes.specs.Bytes.{index_of, index_after}
+use Rattle.script.specs.Places.{index_of, index_after}
 use Rattle.script.specs.Words.{space, split, words_of, unindented}
 use Rattle.script.specs.Numbers.{is_digit, number_below, bytes_in}
 use Rattle.script.specs.Command.{Command, Line, silent, open_session, read_text, call_book, tell_length, write_sheet, check_sheet, tell_mean, screen_text, command, no_call}

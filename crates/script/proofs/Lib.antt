@@ -19,3 +19,4 @@ pub mod Standing
 pub mod Fitting
 pub mod Transcript
 pub mod Leading
+pub mod Finding

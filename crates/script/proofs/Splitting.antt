@@ -9,13 +9,12 @@ use native.Mathlib.Numerals.{add-one}
 use native.Mathlib.Omega.{arith}
 use lib.Dec.{eqb}
 use lib.ListN.{length, take, drop, get_or, replicate, take-append-drop, length-take, length-drop, drop_of_length-le}
-use lib.Seq.{drop-cons, drop-drop, drop-append_seam, take-length}
+use lib.Seq.{drop-cons, drop-drop, drop-append_seam}
 use borrow.Author.Tests.{eq-eqb, ne_eqb, eqb-true}
 use Rattle.atoms.proofs.Truth.{by_cond}
-use Rattle.bytes.specs.Bytes.{slice, index_of, index_after}
 use Rattle.ipl.specs.Lists.{All}
 use Rattle.script.specs.Words.{space, before, split, filled, words_of, unindented}
-use Rattle.script.specs.Places.{between, Indent, NextWord}
+use Rattle.script.specs.Places.{index_of, index_after, between, Indent, NextWord}
 
 -- ---- spaces before a word
 
@@ -98,10 +97,9 @@ no_word (x ∷ l) =
 
 -- ---- the places of a word
 
-module _ (line : List ℕ) (from start end : ℕ) (i : Indent line from start) (e : end ≡ start + index_of space (slice start (length line) line)) where
+module _ (line : List ℕ) (from start end : ℕ) (i : Indent line from start) (e : end ≡ start + index_of space (drop start line)) where
   length_is : index_of space (drop start line) ≡ end - start
-  unfolding slice
-  length_is = let k : end ≡ start + index_of space (drop start line) = rw (take-length line) at e in omega arith
+  length_is = omega (arith, e)
 
   words_from : words_of (drop from line) ≡ words_of (drop start line)
   words_from = sym (words_unindented (drop from line)) ∙ ap words_of i.is

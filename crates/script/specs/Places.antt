@@ -1,5 +1,5 @@
 -- What the code says by places in a line: where a word stands, and the arguments that are read from there on.
-use Rattle.std.specs.Prelude.{Bool, true, false, cond, ◌&&◌, List, [], ◌∷◌, ◌≡◌, ℕ, ◌+◌, ◌-◌, ◌*◌, ◌≤◌, ◌<◌, ltb, length, take, drop}
+use Rattle.std.specs.Prelude.{Bool, true, false, cond, ◌&&◌, List, [], ◌∷◌, ◌≡◌, ℕ, suc, ◌+◌, ◌-◌, ◌*◌, ◌≤◌, ◌<◌, eqb, ltb, length, take, drop}
 use Rattle.std.proofs.Math.Option.{Option, none, some}
 use Rattle.atoms.specs.Words.{num}
 use Rattle.script.specs.Words.{words_of, unindented}
@@ -13,6 +13,15 @@ use Rattle.script.specs.declared.reading.ByteArgument.{ByteArgument}
 use Rattle.script.specs.declared.reading.ByteArgument.TheVariants as byteArgument
 use Rattle.script.specs.declared.reading.SetArgument.{SetArgument}
 use Rattle.script.specs.declared.reading.SetArgument.TheVariants as setArgument
+
+-- The place of the first byte b; where there is none, the length.
+unfoldable pub index_after : Bool → ℕ → ℕ
+index_after true n = 0
+index_after false n = suc n
+
+unfoldable pub index_of : ℕ → List ℕ → ℕ
+index_of b [] = 0
+index_of b (x ∷ l) = index_after (eqb x b) (index_of b l)
 
 -- The bytes from a place up to another.
 abbrev pub between : ℕ → ℕ → List ℕ → List ℕ

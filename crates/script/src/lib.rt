@@ -10,6 +10,7 @@ ghost use Rattle.script.specs.Pieces.{Longer, CallIs, GatheredFrom};
 use reading::Call;
 
 mod answers;
+mod bytes;
 mod numbers;
 mod pages;
 mod reading;
@@ -121,7 +122,7 @@ pub fn gather(piece: &[u8], from: usize, line: &mut [u8], p: Pending) -> Gathere
             ended: false,
         };
     }
-    let end = bytes::scan::find(piece, from, n, b'\n');
+    let end = bytes::find(piece, from, b'\n');
     let pending = join(&piece[from..end], line, p);
     if end == n {
         return Gathered {

@@ -6,7 +6,7 @@ ghost use Rattle.script.specs.Places.{byte_of, byte_taken, set_taken, no_word, T
 ghost use Rattle.script.specs.Reading.{GoalsAre, GoalsRead, Completes, Behind, Arguments, ReadAs};
 
 use super::numbers::Byte;
-use super::{numbers, words};
+use super::{bytes, numbers, words};
 use atoms::AtomSet;
 
 // The most bytes of a call, without the byte 10 that ends its line.
@@ -76,43 +76,43 @@ enum SetArgument {
 fn verb_of(word: &[u8]) -> Verb
     ensures { result ≡ verb_of word.now }
 {
-    if check::same(word, b"open") {
+    if bytes::same(word, b"open") {
         return Verb::Open;
     }
-    if check::same(word, b"text") {
+    if bytes::same(word, b"text") {
         return Verb::Text;
     }
-    if check::same(word, b"flat") {
+    if bytes::same(word, b"flat") {
         return Verb::Flat;
     }
-    if check::same(word, b"implication") {
+    if bytes::same(word, b"implication") {
         return Verb::Implication;
     }
-    if check::same(word, b"ask") {
+    if bytes::same(word, b"ask") {
         return Verb::Ask;
     }
-    if check::same(word, b"page") {
+    if bytes::same(word, b"page") {
         return Verb::Page;
     }
-    if check::same(word, b"mark") {
+    if bytes::same(word, b"mark") {
         return Verb::Mark;
     }
-    if check::same(word, b"return") {
+    if bytes::same(word, b"return") {
         return Verb::Return;
     }
-    if check::same(word, b"length") {
+    if bytes::same(word, b"length") {
         return Verb::Length;
     }
-    if check::same(word, b"sheet") {
+    if bytes::same(word, b"sheet") {
         return Verb::Sheet;
     }
-    if check::same(word, b"check") {
+    if bytes::same(word, b"check") {
         return Verb::Check;
     }
-    if check::same(word, b"mean") {
+    if bytes::same(word, b"mean") {
         return Verb::Mean;
     }
-    if check::same(word, b"screen") {
+    if bytes::same(word, b"screen") {
         return Verb::Screen;
     }
     Verb::Other
@@ -247,7 +247,7 @@ fn author(line: &[u8], from: usize) -> Byte
     if start == end {
         return Byte::Is(ipl::PROGRAM);
     }
-    if check::same(&line[start..end], b"by") {
+    if bytes::same(&line[start..end], b"by") {
         return one_byte(line, end);
     }
     Byte::None

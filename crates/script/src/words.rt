@@ -2,6 +2,8 @@
 ghost use Rattle.std.specs.Prelude.{◌≤◌, length};
 ghost use Rattle.script.specs.Places.{Indent, NextWord};
 
+use super::bytes;
+
 const SPACE: u8 = b' ';
 
 // A word is the bytes from `start` up to `end`; there is none where the two are the same.
@@ -32,6 +34,6 @@ pub fn next(line: &[u8], from: usize) -> Word
     ensures { NextWord line.now from result }
 {
     let start = past_spaces(line, from);
-    let end = bytes::scan::find(line, start, line.len(), SPACE);
+    let end = bytes::find(line, start, SPACE);
     Word { start, end }
 }

@@ -1,0 +1,9 @@
+-- Two numbers behind their labels.
+use Rattle.text.specs.Text.{ascii}
+use Rattle.text.proofs.Appending.{both}
+use Rattle.script.proofs.pages.figured.Goals as goal
+
+pub returns : goal.returns
+unfolding ascii
+returns c =
+    both (both c.figure-a.ensures c.figure-b.ensures) c.word.ensures

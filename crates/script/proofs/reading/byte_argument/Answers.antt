@@ -1,0 +1,17 @@
+-- By the next word.
+use mathlib.Core.Path.{sym, ap, ◌∙◌}
+use Rattle.script.specs.Command.{byte_in}
+use Rattle.script.specs.Places.{byte_of}
+use Rattle.script.proofs.Calling.{no_argument, unfit_argument, fit_argument}
+use Rattle.script.proofs.reading.byte_argument.Goals as goal
+
+pub returns-then-start-end : goal.returns-then-start-end
+returns-then-start-end c = no_argument c.next-word.ensures byte_in c.if-start-end.true
+
+pub returns-in-Is : goal.returns-in-Is
+returns-in-Is c =
+    fit_argument c.next-word.ensures byte_in c.if-start-end.false _ (sym (ap byte_of c.in-Is.is) ∙ c.byte_in.ensures)
+
+pub returns-in-None : goal.returns-in-None
+returns-in-None c =
+    unfit_argument c.next-word.ensures byte_in c.if-start-end.false (sym (ap byte_of c.in-None.is) ∙ c.byte_in.ensures)
