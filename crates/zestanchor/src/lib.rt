@@ -1,4 +1,4 @@
-// The library for C and Rust: one function on bytes, with a task. Its parts serve the programs too.
+// One function on bytes, with a task: what the library for C and Rust exports. Its parts serve the programs too.
 #![tactic(auto)]
 
 ghost use Rattle.std.specs.Prelude.{List, ◌≡◌, ℕ, length};
@@ -90,8 +90,7 @@ fn certified_length(text: &[u8]) -> usize
 }
 
 // Writes what the task gives at the start of the output, and returns its length; 0 where there is no room for it.
-#[unsafe(no_mangle)]
-pub extern "C" fn zestanchor(task: u8, input: &[u8], output: &mut [u8]) -> usize
+pub fn zestanchor(task: u8, input: &[u8], output: &mut [u8]) -> usize
     ensures { Done task input.now output.old output.new result }
 {
     if task == SETTLE {
