@@ -95,11 +95,11 @@ fn write_table(output: &mut [u8]) -> usize
     text::hand_over(&draft, n, output)
 }
 
-fn main() {
-    if !streams::are_open() {
+fn main(rt: HostRuntime) {
+    if !streams::are_open(&rt, &mut rt.stdin(), &mut rt.stderr()) {
         return;
     }
     let mut table = [0u8; ROOM];
     let n = write_table(&mut table);
-    streams::write(&table[..n]);
+    streams::write(&rt, &table[..n]);
 }

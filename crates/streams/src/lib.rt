@@ -4,6 +4,7 @@
 ghost use Rattle.std.specs.Io.{ReadsAtMost};
 ghost use Rattle.streams.specs.Input.{Within, AtMost};
 
+use std::env::{Env, FillError};
 use std::fs::{Files, OpenOptions};
 use std::io::{Error, ErrorKind, Read, Write};
 use std::{io, mem};
@@ -129,5 +130,14 @@ fn take_place(files: &impl Files) -> bool {
             true
         }
         Err(_) => false,
+    }
+}
+
+// Whether the program was started with an argument of this number; its own name is number 0.
+pub fn has_argument(rt: &impl Env, number: usize) -> bool {
+    let mut none = [0u8; 0];
+    match rt.arg(number, &mut none) {
+        Err(FillError::NotPresent) => false,
+        _ => true,
     }
 }
