@@ -12,6 +12,7 @@ use fork::{SETS, WHOLE, sets};
 // Every number has at most two digits, and one byte follows it.
 const ROOM: usize = SETS * SETS * 3;
 
+#[tactic(auto, unfolding(fork::specs::Algebra::within))]
 fn within(a: u8, b: u8) -> bool
     ensures { result ≡ within a b }
 {
