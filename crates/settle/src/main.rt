@@ -20,6 +20,7 @@ mod file;
 const ENOUGH: usize = syntax::MOST_BYTES + 2;
 
 // Without one final newline.
+#[tactic(auto, unfolding(crate::specs::Input::formula_length))]
 fn formula_length(input: &[u8]) -> usize
     ensures { FormulaLength input.now result }
 {
