@@ -192,6 +192,13 @@ fn run(
     }
 }
 
+// The other buffers lie in this frame: the checker reckons with one large array at a time.
+fn run_within(rt: &(impl Print + Eprint), from: &mut impl Read, output: &mut [u8; ANSWERS]) {
+    let mut piece = [0u8; PIECE];
+    let mut line = [0u8; script::LINE];
+    run(rt, from, &mut piece, &mut line, output);
+}
+
 fn main(rt: HostRuntime) {
     if !streams::are_open(&rt, &mut rt.stdin(), &mut rt.stderr()) {
         return;
@@ -200,8 +207,6 @@ fn main(rt: HostRuntime) {
         let _ = eprintln!(rt; "usage: session\nreads a script of calls from standard input");
         return;
     }
-    let mut piece = [0u8; PIECE];
-    let mut line = [0u8; script::LINE];
     let mut output = [0u8; ANSWERS];
-    run(&rt, &mut rt.stdin(), &mut piece, &mut line, &mut output);
+    run_within(&rt, &mut rt.stdin(), &mut output);
 }
