@@ -1,6 +1,7 @@
 // Reads a certificate (document 01: an answer sheet) from standard input and says whether it is accepted.
 #![tactic(auto)]
 
+use std::io::Read;
 use streams::Input;
 
 // Room for every certificate in range; of a longer one the beginning and the length decide.
@@ -13,31 +14,31 @@ const MOST: usize = 1 << 34;
 const LINE: usize = 64;
 
 // What follows a full buffer is counted.
-fn count_rest(came: usize) -> Input {
+fn count_rest(rt: &impl Eprint, from: &mut impl Read, came: usize) -> Input {
     if came < BEGINNING {
         return Input::Bytes(0);
     }
-    streams::count(MOST)
+    streams::count(rt, from, MOST)
 }
 
-fn print(sheet: &[u8], more: usize) {
+fn print(rt: &(impl Print + Eprint), sheet: &[u8], more: usize) {
     let mut line = [0u8; LINE];
     let n = judgement::judge(sheet, more, &mut line);
-    streams::write(&line[..n]);
+    streams::write(rt, &line[..n]);
 }
 
-fn main() {
-    if !streams::are_open() {
+fn main(rt: HostRuntime) {
+    if !streams::are_open(&rt, &mut rt.stdin(), &mut rt.stderr()) {
         return;
     }
     let mut sheet = [0u8; BEGINNING];
-    let input = streams::read(&mut sheet);
+    let input = streams::read(&rt, &mut rt.stdin(), &mut sheet);
     let Input::Bytes(n) = input else {
         return;
     };
-    let rest = count_rest(n);
+    let rest = count_rest(&rt, &mut rt.stdin(), n);
     let Input::Bytes(more) = rest else {
         return;
     };
-    print(&sheet[..n], more);
+    print(&rt, &sheet[..n], more);
 }

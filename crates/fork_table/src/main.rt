@@ -12,6 +12,7 @@ use fork::{SETS, WHOLE, sets};
 // Every number has at most two digits, and one byte follows it.
 const ROOM: usize = SETS * SETS * 3;
 
+#[tactic(auto, unfolding(fork::specs::Algebra::within))]
 fn within(a: u8, b: u8) -> bool
     ensures { result ≡ within a b }
 {
@@ -95,11 +96,11 @@ fn write_table(output: &mut [u8]) -> usize
     text::hand_over(&draft, n, output)
 }
 
-fn main() {
-    if !streams::are_open() {
+fn main(rt: HostRuntime) {
+    if !streams::are_open(&rt, &mut rt.stdin(), &mut rt.stderr()) {
         return;
     }
     let mut table = [0u8; ROOM];
     let n = write_table(&mut table);
-    streams::write(&table[..n]);
+    streams::write(&rt, &table[..n]);
 }

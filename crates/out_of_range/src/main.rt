@@ -5,7 +5,6 @@
 
 use atoms::AtomSet;
 use certify::Length;
-use libc::STDOUT_FILENO;
 use prover::{
     Flats, GoalAnswer, GoalRecord, Held, Implications, Mark, PerVerdict, Records, Session, Steps,
     Verdict, Work, Worlds,
@@ -25,102 +24,102 @@ const MOST: u32 = 4294967295;
 // What a buffer is filled with; no certificate begins with it.
 const UNWRITTEN: u8 = 238;
 
-fn print(text: &[u8]) {
-    io::write_all(STDOUT_FILENO, text);
+fn print(rt: &impl Print, text: &[u8]) {
+    let _ = rt.write_all(text);
 }
 
-fn print_number(text: &[u8], n: usize) {
-    print(text);
-    io::print_decimal(STDOUT_FILENO, n as u64);
+fn print_number(rt: &impl Print, text: &[u8], n: usize) {
+    print(rt, text);
+    let _ = print!(rt; "{n}");
 }
 
-fn print_byte(text: &[u8], byte: u8) {
-    print_number(text, byte as usize);
+fn print_byte(rt: &impl Print, text: &[u8], byte: u8) {
+    print_number(rt, text, byte as usize);
 }
 
-fn print_length(l: Length) {
+fn print_length(rt: &impl Print, l: Length) {
     match l {
-        Length::Bytes(n) => print_number(b" ", n),
-        Length::Refused(number) => print_byte(b" refused ", number),
+        Length::Bytes(n) => print_number(rt, b" ", n),
+        Length::Refused(number) => print_byte(rt, b" refused ", number),
     }
 }
 
-fn print_verdict(v: Verdict) {
+fn print_verdict(rt: &impl Print, v: Verdict) {
     match v {
-        Verdict::Valid(steps) => print_number(b" valid by ", steps),
-        Verdict::Refuted(worlds) => print_number(b" refuted by ", worlds),
+        Verdict::Valid(steps) => print_number(rt, b" valid by ", steps),
+        Verdict::Refuted(worlds) => print_number(rt, b" refuted by ", worlds),
         Verdict::Refused(number, place) => {
-            print_byte(b" refused ", number);
-            print_number(b" at ", place);
+            print_byte(rt, b" refused ", number);
+            print_number(rt, b" at ", place);
         }
     }
 }
 
-fn print_held(h: Held) {
+fn print_held(rt: &impl Print, h: Held) {
     match h {
-        Held::Nothing => print(b", nothing held"),
-        Held::Valid(goal) => print_byte(b", valid held of ", goal),
-        Held::Refuted(goal) => print_byte(b", refuted held of ", goal),
+        Held::Nothing => print(rt, b", nothing held"),
+        Held::Valid(goal) => print_byte(rt, b", valid held of ", goal),
+        Held::Refuted(goal) => print_byte(rt, b", refuted held of ", goal),
     }
 }
 
-fn print_session(s: Session) {
-    print_byte(b"; n ", s.n);
-    print_number(b", flats ", s.flats.count);
-    print_number(b", implications ", s.implications.count);
-    print_number(b", steps ", s.steps.count);
-    print_number(b", worlds ", s.worlds.count);
+fn print_session(rt: &impl Print, s: Session) {
+    print_byte(rt, b"; n ", s.n);
+    print_number(rt, b", flats ", s.flats.count);
+    print_number(rt, b", implications ", s.implications.count);
+    print_number(rt, b", steps ", s.steps.count);
+    print_number(rt, b", worlds ", s.worlds.count);
     let work = prover::work_of(s.authors, AUTHOR);
-    print_number(b", questions ", work.questions as usize);
-    print_number(b" in ", work.verdicts as usize);
+    print_number(rt, b", questions ", work.questions as usize);
+    print_number(rt, b" in ", work.verdicts as usize);
     let held = s.held;
-    print_held(held);
-    print(b"\n");
+    print_held(rt, held);
+    print(rt, b"\n");
 }
 
 // The first and the last byte.
-fn print_ends(bytes: &[u8]) {
+fn print_ends(rt: &impl Print, bytes: &[u8]) {
     let n = bytes.len();
     if 0 < n {
-        print_byte(b" ", bytes[0]);
-        print_byte(b"..", bytes[n - 1]);
+        print_byte(rt, b" ", bytes[0]);
+        print_byte(rt, b"..", bytes[n - 1]);
     }
 }
 
 // What is told and written of a session, and what the buffer then holds.
-fn print_written(s: Session, buffer: &mut [u8]) {
-    print(b": told");
-    print_length(certify::length_told(s));
-    print(b", written");
-    print_length(certify::write(s, buffer));
-    print(b", buffer");
-    print_ends(buffer);
+fn print_written(rt: &impl Print, s: Session, buffer: &mut [u8]) {
+    print(rt, b": told");
+    print_length(rt, certify::length_told(s));
+    print(rt, b", written");
+    print_length(rt, certify::write(s, buffer));
+    print(rt, b", buffer");
+    print_ends(rt, buffer);
 }
 
 // The answers to a flat clause, an implication and a question, each put to the session that the last one returned; then that session.
-fn print_calls(s: Session) {
+fn print_calls(rt: &impl Print, s: Session) {
     let c = AtomSet::single(2);
     let flat = prover::add_flat(s, c, c);
     let implication = prover::add_implication(flat.session, 2, 2, 2);
     let answered = prover::ask(implication.session, AUTHOR, 1);
     let verdict = answered.verdict;
-    print_byte(b"; flat ", flat.refusal);
-    print_byte(b", implication ", implication.refusal);
-    print(b", question");
-    print_verdict(verdict);
-    print_session(answered.session);
+    print_byte(rt, b"; flat ", flat.refusal);
+    print_byte(rt, b", implication ", implication.refusal);
+    print(rt, b", question");
+    print_verdict(rt, verdict);
+    print_session(rt, answered.session);
 }
 
-fn show(what: &[u8], s: Session, buffer: &mut [u8]) {
-    print(what);
-    print_written(s, buffer);
-    print_calls(s);
+fn show(rt: &impl Print, what: &[u8], s: Session, buffer: &mut [u8]) {
+    print(rt, what);
+    print_written(rt, s, buffer);
+    print_calls(rt, s);
 }
 
 // Into 90 bytes, more than the certificate has.
-fn tried(what: &[u8], s: Session) {
+fn tried(rt: &impl Print, what: &[u8], s: Session) {
     let mut buffer = [UNWRITTEN; 90];
-    show(what, s, &mut buffer);
+    show(rt, what, s, &mut buffer);
 }
 
 // Atom 0 gives 1; (0 → 1) → 2. That 2 holds is learned as a step, and 0 is refuted by the world of 2 alone.
@@ -152,88 +151,88 @@ fn with_held(s: Session, held: Held) -> Session {
     }
 }
 
-fn wrong_flats(s: Session) {
+fn wrong_flats(rt: &impl Print, s: Session) {
     let mut t = s;
     let mut many = s.flats;
     many.count = ipl::FLATS + 1;
     t.flats = many;
-    tried(b"513 flat clauses", t);
+    tried(rt, b"513 flat clauses", t);
     let mut left = s.flats;
     left.left[0] = OUTSIDE;
     t.flats = left;
-    tried(b"atom 3 on a left", t);
+    tried(rt, b"atom 3 on a left", t);
     let mut right = s.flats;
     right.right[atoms::WORDS] = OUTSIDE;
     t.flats = right;
-    tried(b"atom 3 on a right", t);
+    tried(rt, b"atom 3 on a right", t);
     let mut unused = s.flats;
     unused.left[2 * atoms::WORDS] = OUTSIDE;
     t.flats = unused;
-    tried(b"atom 3 in an unused row", t);
+    tried(rt, b"atom 3 in an unused row", t);
 }
 
-fn wrong_implications(s: Session) {
+fn wrong_implications(rt: &impl Print, s: Session) {
     let mut t = s;
     let mut many = s.implications;
     many.count = ipl::IMPLICATIONS + 1;
     t.implications = many;
-    tried(b"129 implications", t);
+    tried(rt, b"129 implications", t);
     let mut a = s.implications;
     a.a[0] = ipl::BOTTOM;
     t.implications = a;
-    tried(b"a is 255", t);
+    tried(rt, b"a is 255", t);
     let mut b = s.implications;
     b.b[0] = 3;
     t.implications = b;
-    tried(b"b is 3", t);
+    tried(rt, b"b is 3", t);
     let mut c = s.implications;
     c.c[0] = 254;
     t.implications = c;
-    tried(b"c is 254", t);
+    tried(rt, b"c is 254", t);
 }
 
-fn wrong_steps(s: Session) {
+fn wrong_steps(rt: &impl Print, s: Session) {
     let mut t = s;
     let mut many = s.steps;
     many.count = ipl::STEPS + 1;
     t.steps = many;
-    tried(b"513 steps", t);
+    tried(rt, b"513 steps", t);
     let mut number = s.steps;
     number.numbers[0] = 1;
     t.steps = number;
-    tried(b"step of implication 1", t);
+    tried(rt, b"step of implication 1", t);
     let mut assumed = s.steps;
     assumed.assumed[0] = OUTSIDE;
     t.steps = assumed;
-    tried(b"step assumes atom 3", t);
+    tried(rt, b"step assumes atom 3", t);
 }
 
-fn wrong_worlds(s: Session) {
+fn wrong_worlds(rt: &impl Print, s: Session) {
     let mut t = s;
     let mut many = s.worlds;
     many.count = ipl::WORLDS + 1;
     t.worlds = many;
-    tried(b"257 worlds", t);
+    tried(rt, b"257 worlds", t);
     let mut sets = s.worlds;
     sets.sets[0] = OUTSIDE;
     t.worlds = sets;
-    tried(b"world with atom 3", t);
+    tried(rt, b"world with atom 3", t);
 }
 
 // The answers to setting mark 1, a return to mark 0 and a question, each put to the session that the last one returned; then that session.
-fn print_marks(what: &[u8], s: Session) {
+fn print_marks(rt: &impl Print, what: &[u8], s: Session) {
     let set = prover::set_mark(s, 1);
     let back = prover::return_to(set.session, 0);
     let answered = prover::ask(back.session, AUTHOR, 2);
     let verdict = answered.verdict;
     let marks = answered.session.marks;
-    print(what);
-    print_byte(b": mark ", set.refusal);
-    print_byte(b", return ", back.refusal);
-    print(b", question");
-    print_verdict(verdict);
-    print_number(b"; marks ", marks.count);
-    print_session(answered.session);
+    print(rt, what);
+    print_byte(rt, b": mark ", set.refusal);
+    print_byte(rt, b", return ", back.refusal);
+    print(rt, b", question");
+    print_verdict(rt, verdict);
+    print_number(rt, b"; marks ", marks.count);
+    print_session(rt, answered.session);
 }
 
 // So many marks, the first of which is this one, and the others are that.
@@ -256,35 +255,47 @@ fn mark(number: u8, flats: usize, implications: usize, steps: usize) -> Mark {
     }
 }
 
-fn wrong_marks(s: Session) {
+fn wrong_marks(rt: &impl Print, s: Session) {
     let now = mark(0, 2, 1, 1);
     let wrong = mark(8, 3, 2, 2);
-    print_marks(b"one mark", with_marks(s, 1, now, now));
-    print_marks(b"wrong mark in an unused row", with_marks(s, 1, now, wrong));
-    print_marks(b"nine marks", with_marks(s, 9, now, now));
-    print_marks(b"mark 8", with_marks(s, 1, mark(8, 2, 1, 1), now));
+    print_marks(rt, b"one mark", with_marks(s, 1, now, now));
     print_marks(
+        rt,
+        b"wrong mark in an unused row",
+        with_marks(s, 1, now, wrong),
+    );
+    print_marks(rt, b"nine marks", with_marks(s, 9, now, now));
+    print_marks(rt, b"mark 8", with_marks(s, 1, mark(8, 2, 1, 1), now));
+    print_marks(
+        rt,
         b"mark of 3 flat clauses",
         with_marks(s, 1, mark(0, 3, 1, 1), now),
     );
     print_marks(
+        rt,
         b"mark of 2 implications",
         with_marks(s, 1, mark(0, 2, 2, 1), now),
     );
-    print_marks(b"mark of 2 steps", with_marks(s, 1, mark(0, 2, 1, 2), now));
+    print_marks(
+        rt,
+        b"mark of 2 steps",
+        with_marks(s, 1, mark(0, 2, 1, 2), now),
+    );
 }
 
 // In range, but no calls lead there.
-fn unreached_marks(s: Session) {
+fn unreached_marks(rt: &impl Print, s: Session) {
     let start = mark(0, 0, 0, 0);
     let now = mark(0, 2, 1, 1);
-    print_marks(b"mark 0 twice", with_marks(s, 2, start, now));
-    print_marks(b"mark 0 eight times", with_marks(s, 8, now, now));
+    print_marks(rt, b"mark 0 twice", with_marks(s, 2, start, now));
+    print_marks(rt, b"mark 0 eight times", with_marks(s, 8, now, now));
     print_marks(
+        rt,
         b"marks that fall",
         with_marks(s, 2, mark(2, 2, 1, 1), start),
     );
     print_marks(
+        rt,
         b"marked step of a later implication",
         with_marks(s, 1, mark(0, 2, 0, 1), now),
     );
@@ -301,102 +312,109 @@ fn with_work(s: Session, questions: u32, verdicts: u32) -> Session {
     t
 }
 
-fn print_question(what: &[u8], s: Session, author: u8, goal: u8) {
+fn print_question(rt: &impl Print, what: &[u8], s: Session, author: u8, goal: u8) {
     let answered = prover::ask(s, author, goal);
     let verdict = answered.verdict;
-    print(what);
-    print(b": question");
-    print_verdict(verdict);
-    print_session(answered.session);
+    print(rt, what);
+    print(rt, b": question");
+    print_verdict(rt, verdict);
+    print_session(rt, answered.session);
 }
 
-fn print_mean(what: &[u8], s: Session, author: u8) {
-    print(what);
+fn print_mean(rt: &impl Print, what: &[u8], s: Session, author: u8) {
+    print(rt, what);
     match prover::mean(s, author) {
         PerVerdict::Questions(whole, remainder) => {
-            print_number(b": mean ", whole as usize);
-            print_number(b" remainder ", remainder as usize);
+            print_number(rt, b": mean ", whole as usize);
+            print_number(rt, b" remainder ", remainder as usize);
         }
-        PerVerdict::Refused(number) => print_byte(b": mean refused ", number),
+        PerVerdict::Refused(number) => print_byte(rt, b": mean refused ", number),
     }
-    print(b"\n");
+    print(rt, b"\n");
 }
 
-fn means(s: Session) {
-    print_mean(b"of the author", s, AUTHOR);
-    print_mean(b"of another", s, 0);
-    print_mean(b"of author 16", s, AUTHOR + 1);
-    print_mean(b"of author 255", s, 255);
-    print_mean(b"7 in 3", with_work(s, 7, 3), AUTHOR);
-    print_mean(b"7 in none", with_work(s, 7, 0), AUTHOR);
-    print_mean(b"none in 3", with_work(s, 0, 3), AUTHOR);
-    print_mean(b"most in one", with_work(s, MOST, 1), AUTHOR);
+fn means(rt: &impl Print, s: Session) {
+    print_mean(rt, b"of the author", s, AUTHOR);
+    print_mean(rt, b"of another", s, 0);
+    print_mean(rt, b"of author 16", s, AUTHOR + 1);
+    print_mean(rt, b"of author 255", s, 255);
+    print_mean(rt, b"7 in 3", with_work(s, 7, 3), AUTHOR);
+    print_mean(rt, b"7 in none", with_work(s, 7, 0), AUTHOR);
+    print_mean(rt, b"none in 3", with_work(s, 0, 3), AUTHOR);
+    print_mean(rt, b"most in one", with_work(s, MOST, 1), AUTHOR);
     print_mean(
+        rt,
         b"most in one short of that",
         with_work(s, MOST, MOST - 1),
         AUTHOR,
     );
     print_mean(
+        rt,
         b"one short of that in most",
         with_work(s, MOST - 1, MOST),
         AUTHOR,
     );
     let mut t = with_work(s, 7, 0);
     t.n = 0;
-    print_mean(b"n 0 and no verdict", t, AUTHOR);
-    print_mean(b"n 0 and author 16", t, AUTHOR + 1);
+    print_mean(rt, b"n 0 and no verdict", t, AUTHOR);
+    print_mean(rt, b"n 0 and author 16", t, AUTHOR + 1);
 }
 
-fn authors(s: Session) {
-    print_question(b"author 0", s, 0, 0);
-    print_question(b"author 15", s, AUTHOR, 0);
-    print_question(b"author 16", s, AUTHOR + 1, 0);
-    print_question(b"author 255 and goal 3", s, 255, 3);
-    print_question(b"goal 3", s, AUTHOR, 3);
+fn authors(rt: &impl Print, s: Session) {
+    print_question(rt, b"author 0", s, 0, 0);
+    print_question(rt, b"author 15", s, AUTHOR, 0);
+    print_question(rt, b"author 16", s, AUTHOR + 1, 0);
+    print_question(rt, b"author 255 and goal 3", s, 255, 3);
+    print_question(rt, b"goal 3", s, AUTHOR, 3);
     let mut t = s;
     t.n = 0;
-    print_question(b"n 0 and author 16", t, AUTHOR + 1, 0);
+    print_question(rt, b"n 0 and author 16", t, AUTHOR + 1, 0);
     let short = with_work(s, MOST - 1, MOST - 1);
-    tried(b"counts one short of their end", short);
-    tried(b"counts at their end", with_work(s, MOST, MOST));
-    tried(b"questions at their end", with_work(s, MOST, 0));
-    means(s);
+    tried(rt, b"counts one short of their end", short);
+    tried(rt, b"counts at their end", with_work(s, MOST, MOST));
+    tried(rt, b"questions at their end", with_work(s, MOST, 0));
+    means(rt, s);
 }
 
-fn atom_counts(s: Session) {
+fn atom_counts(rt: &impl Print, s: Session) {
     let mut t = s;
     t.n = 0;
-    tried(b"n 0", t);
+    tried(rt, b"n 0", t);
     t.n = MOST_ATOMS + 1;
-    tried(b"n 65", t);
+    tried(rt, b"n 65", t);
 }
 
-fn verdicts(s: Session) {
-    tried(b"valid of 2", with_held(s, Held::Valid(2)));
-    tried(b"valid of 3", with_held(s, Held::Valid(3)));
-    tried(b"refuted of 254", with_held(s, Held::Refuted(254)));
-    tried(b"refuted of 255", with_held(s, Held::Refuted(ipl::BOTTOM)));
+fn verdicts(rt: &impl Print, s: Session) {
+    tried(rt, b"valid of 2", with_held(s, Held::Valid(2)));
+    tried(rt, b"valid of 3", with_held(s, Held::Valid(3)));
+    tried(rt, b"refuted of 254", with_held(s, Held::Refuted(254)));
+    tried(
+        rt,
+        b"refuted of 255",
+        with_held(s, Held::Refuted(ipl::BOTTOM)),
+    );
     let opened = prover::open(3);
     let empty = opened.session;
-    tried(b"valid without steps", with_held(empty, Held::Valid(1)));
+    tried(rt, b"valid without steps", with_held(empty, Held::Valid(1)));
     tried(
+        rt,
         b"refuted without worlds",
         with_held(empty, Held::Refuted(1)),
     );
 }
 
 // Around the 82 bytes of the certificate; no verdict comes before no room, and a session out of range before both.
-fn buffers(s: Session) {
+fn buffers(rt: &impl Print, s: Session) {
     let mut exact = [UNWRITTEN; 82];
-    show(b"exactly long enough", s, &mut exact);
+    show(rt, b"exactly long enough", s, &mut exact);
     let mut short = [UNWRITTEN; 81];
-    show(b"one byte short", s, &mut short);
+    show(rt, b"one byte short", s, &mut short);
     let mut none = [UNWRITTEN; 0];
-    show(b"no byte", s, &mut none);
+    show(rt, b"no byte", s, &mut none);
     let mut t = with_held(s, Held::Nothing);
-    show(b"no verdict, no byte", t, &mut none);
+    show(rt, b"no verdict, no byte", t, &mut none);
     t.n = 0;
-    show(b"n 0, no verdict, no byte", t, &mut none);
+    show(rt, b"n 0, no verdict, no byte", t, &mut none);
 }
 
 // Every table full that a certificate of steps has.
@@ -424,30 +442,30 @@ fn full(s: Session) -> Session {
     t
 }
 
-fn longest(s: Session) {
+fn longest(rt: &impl Print, s: Session) {
     let mut exact = [UNWRITTEN; 13223];
-    show(b"full tables", s, &mut exact);
+    show(rt, b"full tables", s, &mut exact);
     let mut short = [UNWRITTEN; 13222];
-    show(b"full tables, one byte short", s, &mut short);
+    show(rt, b"full tables, one byte short", s, &mut short);
 }
 
-fn print_answer(answer: GoalAnswer) {
+fn print_answer(rt: &impl Print, answer: GoalAnswer) {
     match answer {
-        GoalAnswer::Open => print(b" open"),
-        GoalAnswer::Valid(steps) => print_number(b" valid by ", steps),
-        GoalAnswer::Refuted(worlds) => print_number(b" refuted by ", worlds),
-        GoalAnswer::RefutedBy(place) => print_number(b" refuted by the model of ", place),
-        GoalAnswer::Refused(number) => print_byte(b" refused ", number),
+        GoalAnswer::Open => print(rt, b" open"),
+        GoalAnswer::Valid(steps) => print_number(rt, b" valid by ", steps),
+        GoalAnswer::Refuted(worlds) => print_number(rt, b" refuted by ", worlds),
+        GoalAnswer::RefutedBy(place) => print_number(rt, b" refuted by the model of ", place),
+        GoalAnswer::Refused(number) => print_byte(rt, b" refused ", number),
     }
 }
 
-fn print_record(what: &[u8], r: GoalRecord) {
+fn print_record(rt: &impl Print, what: &[u8], r: GoalRecord) {
     let answer = r.answer;
     let worlds = r.worlds;
-    print_byte(what, r.goal);
-    print_answer(answer);
-    print_number(b" with ", worlds.count);
-    print_number(b" from ", worlds.sets[0] as usize);
+    print_byte(rt, what, r.goal);
+    print_answer(rt, answer);
+    print_number(rt, b" with ", worlds.count);
+    print_number(rt, b" from ", worlds.sets[0] as usize);
 }
 
 // With an answer and worlds that no page has written.
@@ -463,54 +481,62 @@ fn written(goal: u8) -> GoalRecord {
 }
 
 // An author's page of so many records, the first with one goal and the others with another; what the first two then hold, and the session.
-fn print_page(what: &[u8], s: Session, author: u8, count: usize, first: u8, other: u8) {
+fn print_page(
+    rt: &impl Print,
+    what: &[u8],
+    s: Session,
+    author: u8,
+    count: usize,
+    first: u8,
+    other: u8,
+) {
     let mut rows = [written(other); ipl::GOALS + 1];
     rows[0] = written(first);
     let paged = prover::page_of(Records { count, rows }, s, author);
     let changed = paged.changed;
     let after = paged.records;
-    print(what);
-    print_byte(b": page ", changed.refusal);
-    print_number(b" of ", after.count);
-    print_record(b"; goal ", after.rows[0]);
-    print_record(b"; goal ", after.rows[1]);
-    print_session(changed.session);
+    print(rt, what);
+    print_byte(rt, b": page ", changed.refusal);
+    print_number(rt, b" of ", after.count);
+    print_record(rt, b"; goal ", after.rows[0]);
+    print_record(rt, b"; goal ", after.rows[1]);
+    print_session(rt, changed.session);
 }
 
-fn pages(s: Session) {
-    print_page(b"no goal", s, AUTHOR, 0, 0, 0);
-    print_page(b"one goal", s, AUTHOR, 1, 2, 0);
-    print_page(b"two goals", s, AUTHOR, 2, 0, ipl::BOTTOM);
-    print_page(b"64 goals", s, AUTHOR, 64, 0, 2);
-    print_page(b"65 goals", s, AUTHOR, 65, 0, 2);
-    print_page(b"more goals than rows", s, AUTHOR, 66, 0, 2);
-    print_page(b"goal 3 behind another", s, AUTHOR, 2, 0, 3);
-    print_page(b"65 goals, one of them 3", s, AUTHOR, 65, 3, 0);
-    print_page(b"page of author 0", s, 0, 2, 0, 0);
-    print_page(b"page of author 16", s, AUTHOR + 1, 1, 0, 0);
-    print_page(b"page of author 16, 65 goals", s, AUTHOR + 1, 65, 0, 0);
-    print_page(b"page of author 255, goal 3", s, 255, 1, 3, 0);
+fn pages(rt: &impl Print, s: Session) {
+    print_page(rt, b"no goal", s, AUTHOR, 0, 0, 0);
+    print_page(rt, b"one goal", s, AUTHOR, 1, 2, 0);
+    print_page(rt, b"two goals", s, AUTHOR, 2, 0, ipl::BOTTOM);
+    print_page(rt, b"64 goals", s, AUTHOR, 64, 0, 2);
+    print_page(rt, b"65 goals", s, AUTHOR, 65, 0, 2);
+    print_page(rt, b"more goals than rows", s, AUTHOR, 66, 0, 2);
+    print_page(rt, b"goal 3 behind another", s, AUTHOR, 2, 0, 3);
+    print_page(rt, b"65 goals, one of them 3", s, AUTHOR, 65, 3, 0);
+    print_page(rt, b"page of author 0", s, 0, 2, 0, 0);
+    print_page(rt, b"page of author 16", s, AUTHOR + 1, 1, 0, 0);
+    print_page(rt, b"page of author 16, 65 goals", s, AUTHOR + 1, 65, 0, 0);
+    print_page(rt, b"page of author 255, goal 3", s, 255, 1, 3, 0);
     let most = with_work(s, MOST, MOST - 1);
-    print_page(b"questions at their end", most, AUTHOR, 2, 0, 0);
+    print_page(rt, b"questions at their end", most, AUTHOR, 2, 0, 0);
     let mut t = s;
     t.n = 0;
-    print_page(b"n 0 and 65 goals", t, AUTHOR, 65, 0, 0);
-    print_page(b"n 0 and author 16", t, AUTHOR + 1, 1, 0, 0);
+    print_page(rt, b"n 0 and 65 goals", t, AUTHOR, 65, 0, 0);
+    print_page(rt, b"n 0 and author 16", t, AUTHOR + 1, 1, 0, 0);
 }
 
-fn main() {
+fn main(rt: HostRuntime) {
     let s = asked();
-    tried(b"in range", s);
-    atom_counts(s);
-    wrong_flats(s);
-    wrong_implications(s);
-    wrong_steps(s);
-    wrong_worlds(s);
-    wrong_marks(s);
-    unreached_marks(s);
-    verdicts(s);
-    buffers(s);
-    longest(full(s));
-    authors(s);
-    pages(s);
+    tried(&rt, b"in range", s);
+    atom_counts(&rt, s);
+    wrong_flats(&rt, s);
+    wrong_implications(&rt, s);
+    wrong_steps(&rt, s);
+    wrong_worlds(&rt, s);
+    wrong_marks(&rt, s);
+    unreached_marks(&rt, s);
+    verdicts(&rt, s);
+    buffers(&rt, s);
+    longest(&rt, full(s));
+    authors(&rt, s);
+    pages(&rt, s);
 }

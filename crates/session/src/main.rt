@@ -4,9 +4,9 @@
 ghost use Rattle.std.specs.Prelude.{true, ◌≡◌, ◌≤◌, length};
 ghost use Rattle.script.specs.Run.{output_room, LinesAnswered, Through};
 
-use libc::STDERR_FILENO;
 use prover::Session;
 use script::Pending;
+use std::io::Read;
 use streams::Input;
 
 // A script is read in pieces of at most so many bytes.
@@ -38,8 +38,8 @@ struct Reached {
     more: bool,
 }
 
-fn write(output: &[u8]) -> bool {
-    output.len() == 0 || streams::write(output)
+fn write(rt: &(impl Print + Eprint), output: &[u8]) -> bool {
+    output.len() == 0 || streams::write(rt, output)
 }
 
 // Whether the answers can wait for that to the line which begins at a place of the piece: there is room for it, and it is no question
@@ -101,7 +101,13 @@ fn answer_lines(
 }
 
 // Answers the lines that end in a piece.
-fn answer(start: Script, piece: &[u8], line: &mut [u8], output: &mut [u8]) -> Reached
+fn answer(
+    rt: &(impl Print + Eprint),
+    start: Script,
+    piece: &[u8],
+    line: &mut [u8],
+    output: &mut [u8],
+) -> Reached
     requires { output_room ≤ length output.old }
     ensures { result.more ≡ true → Through start.session start.number line.old start.pending piece.now
         result.script.session result.script.number line.new result.script.pending }
@@ -114,23 +120,30 @@ fn answer(start: Script, piece: &[u8], line: &mut [u8], output: &mut [u8]) -> Re
         script = answers.script;
         at = answers.at;
         let n = answers.length;
-        more = write(&output[..n]);
+        more = write(rt, &output[..n]);
     }
     Reached { script, more }
 }
 
 // Answers the last line.
-fn end(script: Script, line: &[u8], output: &mut [u8]) {
+fn end(rt: &(impl Print + Eprint), script: Script, line: &[u8], output: &mut [u8]) {
     let last = script::answer_line(script.session, script.number, line, script.pending, output);
     let n = last.length;
-    write(&output[..n]);
+    write(rt, &output[..n]);
 }
 
 // Reads a piece and answers the lines that end in it; at the end of the input the last line.
-fn read(script: Script, piece: &mut [u8], line: &mut [u8], output: &mut [u8]) -> Reached
+fn read(
+    rt: &(impl Print + Eprint),
+    from: &mut impl Read,
+    script: Script,
+    piece: &mut [u8],
+    line: &mut [u8],
+    output: &mut [u8],
+) -> Reached
     requires { output_room ≤ length output.old }
 {
-    let input = streams::read_some(piece);
+    let input = streams::read_some(rt, from, piece);
     let Input::Bytes(n) = input else {
         return Reached {
             script,
@@ -138,13 +151,13 @@ fn read(script: Script, piece: &mut [u8], line: &mut [u8], output: &mut [u8]) ->
         };
     };
     if n == 0 {
-        end(script, line, output);
+        end(rt, script, line, output);
         return Reached {
             script,
             more: false,
         };
     }
-    answer(script, &piece[..n], line, output)
+    answer(rt, script, &piece[..n], line, output)
 }
 
 fn start() -> Script {
@@ -158,13 +171,19 @@ fn start() -> Script {
 }
 
 // No input has so many pieces that the count of them ends it.
-fn run(piece: &mut [u8], line: &mut [u8], output: &mut [u8])
+fn run(
+    rt: &(impl Print + Eprint),
+    from: &mut impl Read,
+    piece: &mut [u8],
+    line: &mut [u8],
+    output: &mut [u8],
+)
     requires { output_room ≤ length output.old }
 {
     let mut script = start();
     let mut pieces: u64 = 0;
     while pieces < 0xffff_ffff_ffff_ffff {
-        let reached = read(script, piece, line, output);
+        let reached = read(rt, from, script, piece, line, output);
         if !reached.more {
             return;
         }
@@ -173,19 +192,21 @@ fn run(piece: &mut [u8], line: &mut [u8], output: &mut [u8])
     }
 }
 
-fn main() {
-    if !streams::are_open() {
-        return;
-    }
-    if 1 < os::arg_count() {
-        io::write_all(
-            STDERR_FILENO,
-            b"usage: session\nreads a script of calls from standard input\n",
-        );
-        return;
-    }
+// The other buffers lie in this frame: the checker reckons with one large array at a time.
+fn run_within(rt: &(impl Print + Eprint), from: &mut impl Read, output: &mut [u8; ANSWERS]) {
     let mut piece = [0u8; PIECE];
     let mut line = [0u8; script::LINE];
+    run(rt, from, &mut piece, &mut line, output);
+}
+
+fn main(rt: HostRuntime) {
+    if !streams::are_open(&rt, &mut rt.stdin(), &mut rt.stderr()) {
+        return;
+    }
+    if streams::has_argument(&rt, 1) {
+        let _ = eprintln!(rt; "usage: session\nreads a script of calls from standard input");
+        return;
+    }
     let mut output = [0u8; ANSWERS];
-    run(&mut piece, &mut line, &mut output);
+    run_within(&rt, &mut rt.stdin(), &mut output);
 }

@@ -1,118 +1,148 @@
 // A regular file is written whole: beside its name, then renamed over it, so that an old one stands until the new one does. A link, a
 // device or a pipe is written as it stands. Every failure is told on standard error.
-ghost use Rattle.io.specs.Counts.{IsPrefixLen};
+ghost use Rattle.streams.specs.Input.{Counts};
 
 use atoms::little_endian;
-use libc::PATH_MAX;
+use std::fs::{Files, OpenFile, OpenOptions};
+use std::io::{Error, ErrorKind, Seek, SeekFrom, Write};
+use std::random::RandomSource;
+use std::{fs, io, str};
 
-#[derive(Clone, Copy)]
-enum Kind {
+// No path has so many bytes.
+pub const PATH_MAX: usize = 4096;
+
+#[derive(Drop)]
+enum Kind<F> {
     // A regular file, or none yet.
     Replaced,
     // Open for writing.
-    Filled(i32),
+    Filled(F),
     // It cannot be written.
     Shut,
 }
 
-fn is_link(path: &[u8]) -> bool {
-    let mut name = io::buffer();
-    if PATH_MAX <= path.len() {
-        return false;
+fn is_link(files: &impl Files, path: &str) -> bool {
+    match fs::symlink_metadata(files, path) {
+        Ok(found) => found.is_symlink(),
+        Err(_) => false,
     }
-    bytes::copy(path, &mut name);
-    name[PATH_MAX - 1] = 0;
-    let mut first = [0u8; 1];
-    0 <= libc::readlink(&name, &mut first)
 }
 
-fn filled(path: &[u8], file: i32) -> Kind {
-    if file < 0 {
-        os::fail(path);
-        return Kind::Shut;
+fn filled<F: Drop>(rt: &impl Eprint, path: &str, opened: io::Result<F>) -> Kind<F> {
+    match opened {
+        Ok(file) => Kind::Filled(file),
+        Err(error) => {
+            streams::tell(rt, path, error);
+            Kind::Shut
+        }
     }
-    Kind::Filled(file)
 }
 
 // Only a regular file can be cut at its own end.
-fn kind_of(path: &[u8]) -> Kind {
-    if is_link(path) {
-        return filled(path, os::open_overwrite(path));
+fn can_be_cut(file: &mut (impl Seek + OpenFile)) -> bool {
+    match file.seek(SeekFrom::End(0)) {
+        Ok(end) => file.set_len(end).is_ok(),
+        Err(_) => false,
     }
-    let file = os::open_append(path);
-    if file < 0 {
-        if os::errno() == libc::ENOENT {
-            return Kind::Replaced;
-        }
-        return filled(path, file);
-    }
-    let end = libc::lseek(file, 0, libc::SEEK_END);
-    if libc::ftruncate(file, end) != 0 {
-        return Kind::Filled(file);
-    }
-    libc::close(file);
-    Kind::Replaced
 }
 
-// Writes the bytes to an open file and closes it; where it is to be renamed, once they have reached their device.
-fn fill(path: &[u8], file: i32, bytes: &[u8], synced: bool) -> bool {
-    let mut written = io::write_all(file, bytes);
-    if written && synced {
-        written = libc::fsync(file) == 0;
+fn kind_of<R: Files + Eprint>(rt: &R, path: &str) -> Kind<R::File> {
+    if is_link(rt, path) {
+        return filled(rt, path, fs::create(rt, path));
     }
-    if !written {
-        os::fail(path);
-        libc::close(file);
-        return false;
+    match OpenOptions::new().append(true).open(rt, path) {
+        Err(error) if error.kind() == ErrorKind::NotFound => Kind::Replaced,
+        Err(error) => filled(rt, path, Err(error)),
+        Ok(mut file) => {
+            if can_be_cut(&mut file) {
+                return Kind::Replaced;
+            }
+            Kind::Filled(file)
+        }
     }
-    let closed = libc::close(file) == 0;
-    if !closed {
-        os::fail(path);
+}
+
+// All of the bytes. Those of a regular file have then reached their device, and nothing is left that its closing could tell.
+fn put(file: &mut (impl Write + OpenFile), bytes: &[u8]) -> io::Result<()> {
+    file.write_all(bytes)?;
+    if file.metadata()?.is_file() {
+        file.sync_all()?;
     }
-    closed
+    Ok(())
+}
+
+// Writes the bytes to an open file and closes it.
+fn fill(
+    rt: &impl Eprint,
+    path: &str,
+    mut file: impl Write + OpenFile + Drop,
+    bytes: &[u8],
+) -> bool {
+    match put(&mut file, bytes) {
+        Ok(()) => true,
+        Err(error) => {
+            streams::tell(rt, path, error);
+            false
+        }
+    }
 }
 
 // A name that no other file is likely to have: the path, a dot and a random number. Empty where it is too long.
-fn name_beside(path: &[u8], name: &mut [u8]) -> usize
-    ensures { IsPrefixLen result name.new }
+fn name_beside(source: &impl RandomSource, path: &[u8], name: &mut [u8]) -> usize
+    ensures { Counts result name.new }
 {
     let mut random = [0u8; 4];
-    libc::getentropy(&mut random);
+    let _ = source.fill_bytes(&mut random);
     let n = text::word(name, 0, path);
     let end = text::figure(name, n, b".", little_endian::number(&random, 0, 4));
     if name.len() <= end { 0 } else { end }
 }
 
 // Renames the file beside over the path; where that fails, removes it.
-fn rename(beside: &[u8], path: &[u8]) -> bool {
-    if os::rename(beside, path) == 0 {
-        return true;
+fn rename(rt: &(impl Files + Eprint), beside: &str, path: &str) -> bool {
+    match fs::rename(rt, beside, path) {
+        Ok(()) => true,
+        Err(error) => {
+            streams::tell(rt, path, error);
+            let _ = fs::remove_file(rt, beside);
+            false
+        }
     }
-    os::fail(path);
-    os::unlink(beside);
-    false
 }
 
-fn replace(path: &[u8], bytes: &[u8]) -> bool {
-    let mut name = io::buffer();
-    let n = name_beside(path, &mut name);
-    let file = os::create(&name[..n]);
-    if file < 0 {
-        os::fail(path);
-        return false;
+fn replace(rt: &(impl Files + Eprint + RandomSource), path: &str, bytes: &[u8]) -> bool {
+    let mut name = [0u8; PATH_MAX];
+    let n = name_beside(rt, path.as_bytes(), &mut name);
+    let beside = str::from_utf8(&name[..n]).unwrap_or("");
+    match OpenOptions::new()
+        .write(true)
+        .create_new(true)
+        .open(rt, beside)
+    {
+        Err(error) => {
+            streams::tell(rt, path, error);
+            false
+        }
+        Ok(file) => {
+            if fill(rt, path, file, bytes) {
+                return rename(rt, beside, path);
+            }
+            let _ = fs::remove_file(rt, beside);
+            false
+        }
     }
-    if !fill(path, file, bytes, true) {
-        os::unlink(&name[..n]);
-        return false;
-    }
-    rename(&name[..n], path)
 }
 
-// Writes the bytes to the file; false where that failed.
-pub fn save(path: &[u8], bytes: &[u8]) -> bool {
-    match kind_of(path) {
+// Writes the bytes to the file; false where that failed. A path is text.
+pub fn save(rt: &(impl Files + Eprint + RandomSource), path: &[u8], bytes: &[u8]) -> bool {
+    let Ok(path) = str::from_utf8(path) else {
+        let error = Error::new(ErrorKind::InvalidFilename, "it is no UTF-8 text");
+        streams::tell(rt, "the name of the file", error);
+        return false;
+    };
+    match kind_of(rt, path) {
         Kind::Shut => false,
-        Kind::Replaced => replace(path, bytes),
-        Kind::Filled(file) => fill(path, file, bytes, false),
+        Kind::Replaced => replace(rt, path, bytes),
+        Kind::Filled(file) => fill(rt, path, file, bytes),
     }
 }

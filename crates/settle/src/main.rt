@@ -2,11 +2,15 @@
 // the verdict's answer sheet there.
 #![tactic(auto)]
 
+ghost use Rattle.std.specs.Prelude.{IfSome};
 ghost use Rattle.text.specs.Output.{Gives};
 ghost use Rattle.report.specs.Printed.{printed, sheet};
+ghost use Rattle.streams.specs.Input.{Counts};
 ghost use Rattle.settle.specs.Input.{FormulaLength, formula};
 
-use libc::STDERR_FILENO;
+use std::env::{Env, FillError};
+use std::fs::Files;
+use std::random::RandomSource;
 use streams::Input;
 use zestanchor::Lengths;
 
@@ -16,6 +20,7 @@ mod file;
 const ENOUGH: usize = syntax::MOST_BYTES + 2;
 
 // Without one final newline.
+#[tactic(auto, unfolding(crate::specs::Input::formula_length))]
 fn formula_length(input: &[u8]) -> usize
     ensures { FormulaLength input.now result }
 {
@@ -36,18 +41,18 @@ fn settle(input: &[u8], report: &mut [u8], certificate: &mut [u8]) -> Lengths
 }
 
 // Without a verdict there is no sheet, and the report says so; without a path none is saved.
-fn print(input: &[u8], path: &[u8]) {
+fn print(rt: &(impl Print + Eprint + Files + RandomSource), input: &[u8], path: &[u8]) {
     let mut report = [0u8; text::DRAFT];
     let mut certificate = [0u8; text::DRAFT];
     let lengths = settle(input, &mut report, &mut certificate);
     let size = lengths.sheet;
     if 0 < size && 0 < path.len() {
-        if !file::save(path, &certificate[..size]) {
+        if !file::save(rt, path, &certificate[..size]) {
             return;
         }
     }
     let n = lengths.report;
-    streams::write(&report[..n]);
+    streams::write(rt, &report[..n]);
 }
 
 fn is_name(path: &[u8]) -> bool {
@@ -57,23 +62,36 @@ fn is_name(path: &[u8]) -> bool {
     path[0] != b'-'
 }
 
-fn main() {
-    if !streams::are_open() {
+// The length of the one argument, 0 where there is none; nothing where the arguments are wrong.
+fn argument(rt: &impl Env, path: &mut [u8]) -> Option<usize>
+    ensures { IfSome result (λ n. Counts n path.new) }
+{
+    match rt.arg(1, path) {
+        Err(FillError::NotPresent) => Some(0),
+        Err(FillError::TooLong) => None,
+        Ok(n) => {
+            if is_name(&path[..n]) && !streams::has_argument(rt, 2) {
+                return Some(n);
+            }
+            None
+        }
+    }
+}
+
+fn main(rt: HostRuntime) {
+    if !streams::are_open(&rt, &mut rt.stdin(), &mut rt.stderr()) {
         return;
     }
-    let mut path = io::buffer();
-    let n = os::arg(1, &mut path);
-    let arguments = os::arg_count();
-    if 1 < arguments && !(arguments == 2 && is_name(&path[..n])) {
-        io::write_all(
-            STDERR_FILENO,
-            b"usage: settle [FILE]\nreads a formula from standard input; FILE gets the answer sheet\n",
+    let mut path = [0u8; file::PATH_MAX];
+    let Some(n) = argument(&rt, &mut path) else {
+        let _ = eprintln!(rt;
+            "usage: settle [FILE]\nreads a formula from standard input; FILE gets the answer sheet"
         );
         return;
-    }
+    };
     let mut input = [0u8; ENOUGH];
-    match streams::read(&mut input) {
+    match streams::read(&rt, &mut rt.stdin(), &mut input) {
         Input::Failed => {}
-        Input::Bytes(m) => print(&input[..m], &path[..n]),
+        Input::Bytes(m) => print(&rt, &input[..m], &path[..n]),
     }
 }

@@ -1,12 +1,15 @@
 -- How many bytes came.
-use Rattle.std.specs.Prelude.{List, ℕ, ◌≤◌}
-use Rattle.io.specs.Counts.{IsPrefixLen}
+use Rattle.std.specs.Prelude.{◌≡◌, ℕ, ◌≤◌, List, length, take}
 use Rattle.streams.specs.declared.Input.{Input}
 use Rattle.streams.specs.declared.Input.TheVariants.{Bytes, Failed}
 
+-- The first n bytes of the buffer are there, and are n.
+abbrev pub Counts : ℕ → List ℕ → Type 0
+Counts n buffer = (n ≤ length buffer) × (n ≡ length (take n buffer))
+
 -- They stand at the start of the buffer.
 abbrev pub Within : Input → List ℕ → Type 0
-Within (Bytes n) buffer = IsPrefixLen n buffer
+Within (Bytes n) buffer = Counts n buffer
 Within Failed buffer = Unit {0}
 
 -- No more are counted than were to be.

@@ -1,2 +1,0 @@
--- Laws of what came.
-pub mod Reading
