@@ -5,6 +5,20 @@ use Rattle.script.proofs.Leading.{prints_on, prints_answered}
 use Rattle.session.proofs.Holding.{held_inside, held_behind, held_length}
 use Rattle.session.proofs.answer_lines.Goals as goal
 
+pub overflow_add-held : goal.overflow_add-held
+overflow_add-held c =
+    let l = c.loop-waits in
+    let answered = c.answer_line-answer in
+    let size = held_length l.output l.held _ l.invariant.fits answered.auto.output in
+    omega (arith, held_inside l.output l.held _ answered.ensures l.invariant.fits _ answered.auto.output size)
+
+pub overflow_sub-output : goal.overflow_sub-output
+overflow_sub-output c =
+    let l = c.loop-waits in
+    let answered = c.answer_line-answer in
+    let size = held_length l.output l.held _ l.invariant.fits answered.auto.output in
+    omega (arith, held_inside l.output l.held _ answered.ensures l.invariant.fits _ answered.auto.output size)
+
 pub loop-waits-preserved-then-gathered : goal.loop-waits-preserved-then-gathered
 loop-waits-preserved-then-gathered c =
     let l = c.loop-waits in
