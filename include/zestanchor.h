@@ -1,5 +1,5 @@
 /* Zestanchor settles formulas of intuitionistic propositional logic. This is its one function on bytes, for C and C++. Link
-   target/staticlib/libzestanchor.a, which `rt staticlib zestanchor` writes; it needs memcpy and memset and nothing else. */
+   target/staticlib/libzestanchor.a, which `./build libzestanchor.a` writes; it needs memcpy and memset and nothing else. */
 #ifndef ZESTANCHOR_H
 #define ZESTANCHOR_H
 

@@ -1,4 +1,4 @@
-//! Links the proved library, which `rt staticlib zestanchor` writes; the benchmark also links that of `rt staticlib bench`.
+//! Links the proved library, which `./build libzestanchor.a` writes; the benchmark also links `libbench.a`.
 
 fn main() {
     let folder = concat!(env!("CARGO_MANIFEST_DIR"), "/../target/staticlib");
