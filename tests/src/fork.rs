@@ -222,7 +222,8 @@ mod tests {
         let source = stored("fork/src/implications.rt");
         let (_, entries) = source.split_once("[u8; SETS * SETS] = [").expect("the table");
         let (entries, _) = entries.split_once("];").expect("its end");
-        numbers(entries.lines().filter_map(|line| line.trim().split_once(',')).map(|(entry, _)| entry))
+        let lines = entries.lines().map(|line| line.split("//").next().unwrap_or(line));
+        numbers(lines.flat_map(|line| line.split(',')).map(str::trim).filter(|entry| !entry.is_empty()))
     }
 
     #[test]
