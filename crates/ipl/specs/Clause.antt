@@ -45,7 +45,7 @@ closed F i = eqb i.b bot || any (same_flat (closing i)) F
 unfoldable pub beyond : Implication → ℕ → ℕ → Bool
 beyond i M u = within M u && not (eqb M u) && has u i.a && not (has u i.b)
 
--- "World M realizes (a → b) → c within worlds 𝓛 if M has a, b or c, or some world of W" is beyond it.
+-- "World M realizes (a → b) → c within worlds W if M has a, b or c, or some world of W" is beyond it.
 unfoldable pub realizes : List ℕ → ℕ → Implication → Bool
 realizes W M i = has M i.a || has M i.b || has M i.c || any (beyond i M) W
 
