@@ -6,12 +6,13 @@ use native.Mathlib.Decide.{dec_lt}
 use native.Mathlib.Nat.{one-mul, le_of_eq, zero-add}
 use native.Mathlib.Omega.{arith}
 use borrow.Author.Tests.{lt-ltb, le-ltb}
-use lib.Dec.{T, ltb, eqb→eq}
+use lib.Dec.{T, eqb, ltb, eqb→eq}
 use lib.Count.{count_leading_zeros, leading_top}
 use lib.ListN.{length, set, length-set}
 use lib.Pow.{pow_pos, pow_mono, pow-lt, ones_lt, shl_exact}
 use lib.Seq.{get_or-set_same, get_or-set_other}
 use Rattle.atoms.specs.Sets.{bit_at, has, limit, single}
+use Rattle.atoms.specs.declared.AtomSet.{AtomSet}
 use Rattle.atoms.proofs.Truth.{by_cond, false_T}
 use Rattle.atoms.proofs.Members.{has_empty, has_single}
 use Rattle.atoms.proofs.Bits.{bit_ones, bit_past}
@@ -34,6 +35,11 @@ set_digits = omega arith
 pub num_empty : num (record { bits = 0 }) ≡ 0
 unfolding num
 num_empty = refl
+
+-- The derived test of two sets is that of their numbers.
+pub same_sets : (a b : AtomSet) → eqb a.bits b.bits ≡ eqb (num a) (num b)
+unfolding num
+same_sets a b = refl
 
 -- Every atom, bit by bit.
 pub every_atom_lem : (i : ℕ) → i < limit → bit_at every_atom i ≡ 1

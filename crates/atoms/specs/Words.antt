@@ -1,5 +1,5 @@
 -- What the code's values stand for: a set is a number, a table is its rows. No crate above looks behind these names.
-use Rattle.std.specs.Prelude.{◌≡◌, cond, List, ℕ, suc, ◌+◌, ◌^◌, ◌-◌, ◌≤◌, ◌<◌, min, ltb, length, get_or}
+use Rattle.std.specs.Prelude.{◌≡◌, cond, List, ℕ, suc, ◌+◌, ◌^◌, ◌-◌, ◌≤◌, ◌<◌, min, ltb, length, get_or, Option, IfSome, IsSome, IsNone}
 use Rattle.atoms.specs.Sets.{limit, single, Highest}
 use Rattle.atoms.specs.declared.AtomSet.{AtomSet}
 
@@ -30,6 +30,11 @@ pub record HighestNumber (s r : ℕ) : Type 0 where
   pub empty : s ≡ 0 → r ≡ limit
   pub member : 0 < s → single r ≤ s
   pub above : s < single (suc r)
+
+-- r is the set with this number, where there is one.
+pub record NumberIs (x : ℕ) (r : Option AtomSet) : Type 0 where
+  pub some : x < 2 ^ limit → IfSome r (λ s. num s ≡ x) × IsSome r
+  pub none : 2 ^ limit ≤ x → IsNone r
 
 -- How many words a set takes in a table.
 unfoldable pub words : ℕ

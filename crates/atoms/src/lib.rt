@@ -1,10 +1,10 @@
 // Sets of atoms. Atom i counts 2^i; every function is total, for any number and any set.
 #![tactic(auto)]
 
-ghost use Rattle.std.specs.Prelude.{true, ◌≡◌, ◌+◌, ◌*◌, ◌/◌, ◌%◌, ◌^◌, ◌<◌, eqb, leb, ltb};
+ghost use Rattle.std.specs.Prelude.{true, ◌≡◌, ◌+◌, ◌*◌, ◌/◌, ◌%◌, ◌^◌, ◌<◌, eqb, leb, IfSome, IsNone, ◌≤◌};
 ghost use Rattle.atoms.specs.Sets.{limit, has, union, common, minus, within, meets, without_lowest};
 ghost use Rattle.atoms.specs.Bytes.{digits, number_at, put_at};
-ghost use Rattle.atoms.specs.Words.{num, every_atom, single_or_empty, below, HighestOrEmpty, HighestNumber, row_of, row_count, RowSet, RowsSet};
+ghost use Rattle.atoms.specs.Words.{num, every_atom, single_or_empty, below, HighestOrEmpty, HighestNumber, NumberIs, row_of, row_count, RowSet, RowsSet};
 
 pub mod little_endian;
 
@@ -14,23 +14,16 @@ pub const WORDS: usize = 1;
 // How many atoms there is room for.
 pub const LIMIT: u8 = 64;
 
-#[derive(Clone, Copy)]
+#[derive(Clone, Copy, Debug, PartialEq, Eq, Hash)]
 pub struct AtomSet {
     pub bits: u64,
 }
 
 // A set's number in base ten: the last digit, and the number without it.
-#[derive(Clone, Copy)]
+#[derive(Clone, Copy, Debug)]
 pub struct Tenth {
     pub rest: AtomSet,
     pub digit: u8,
-}
-
-// Whether a number with a further digit is that of a set, and the set.
-#[derive(Clone, Copy)]
-pub struct Longer {
-    pub fits: bool,
-    pub set: AtomSet,
 }
 
 impl AtomSet {
@@ -73,9 +66,7 @@ impl AtomSet {
         if n < LIMIT {
             AtomSet { bits: (1 << n) - 1 }
         } else {
-            AtomSet {
-                bits: 0xffff_ffff_ffff_ffff,
-            }
+            AtomSet { bits: u64::MAX }
         }
     }
 
@@ -133,22 +124,11 @@ impl AtomSet {
         self.bits == 0
     }
 
-    // The same atoms.
-    pub fn same(self, other: AtomSet) -> bool
-        ensures { result ≡ eqb (num self) (num other) }
-    {
-        self.bits == other.bits
-    }
-
     // Atom i is in self.
     pub fn has(self, i: u8) -> bool
         ensures { result ≡ has (num self) i }
     {
-        if i < LIMIT {
-            (self.bits >> i) % 2 == 1
-        } else {
-            false
-        }
+        i < LIMIT && (self.bits >> i) % 2 == 1
     }
 
     // The set of the highest atom alone; of the empty set, the empty set.
@@ -165,7 +145,7 @@ impl AtomSet {
         if self.bits == 0 {
             return LIMIT;
         }
-        (63 - u64::leading_zeros(self.bits)) as u8
+        (63 - self.bits.leading_zeros()) as u8
     }
 
     // Self without its lowest atom; of the empty set, the empty set.
@@ -192,24 +172,12 @@ impl AtomSet {
         }
     }
 
-    // The number with a further digit in base ten.
-    pub fn with_digit(self, digit: u8) -> Longer
-        ensures { (result.fits ≡ ltb (10 * num self + digit) (2 ^ limit)) × (result.fits ≡ true → num result.set ≡ 10 * num self + digit) }
+    // The set whose number has a further digit in base ten, if there is one.
+    pub fn with_digit(self, digit: u8) -> Option<Self>
+        ensures { NumberIs (10 * num self + digit) result }
     {
-        let last = digit as u64;
-        if (0xffff_ffff_ffff_ffff - last) / 10 < self.bits {
-            Longer {
-                fits: false,
-                set: self,
-            }
-        } else {
-            Longer {
-                fits: true,
-                set: AtomSet {
-                    bits: 10 * self.bits + last,
-                },
-            }
-        }
+        let bits = self.bits.checked_mul(10)?.checked_add(u64::from(digit))?;
+        Some(AtomSet { bits })
     }
 }
 
@@ -224,11 +192,8 @@ pub fn rows(table: &[u64]) -> usize
 pub fn row(table: &[u64], i: usize) -> AtomSet
     ensures { num result ≡ row_of table.now i }
 {
-    if i < table.len() {
-        AtomSet { bits: table[i] }
-    } else {
-        AtomSet::EMPTY
-    }
+    let bits = table.get(i).copied().unwrap_or(0);
+    AtomSet { bits }
 }
 
 // Writes row i of a table of sets; past its end, nothing.
@@ -244,16 +209,9 @@ pub fn set_row(table: &mut [u64], i: usize, s: AtomSet)
 pub fn copy_rows(from: &[u64], to: &mut [u64], at: usize, count: usize)
     ensures { RowsSet to.old at from.now count to.new }
 {
-    let mut i = 0;
-    let mut j = at;
-    while i < count {
-        if rows(to) <= j {
-            return;
-        }
-        let s = row(from, i);
-        set_row(to, j, s);
-        i += 1;
-        j += 1;
+    let room = rows(to).saturating_sub(at);
+    for i in 0..count.min(room) {
+        set_row(to, at + i, row(from, i));
     }
 }
 

@@ -6,31 +6,19 @@ ghost use Rattle.atoms.specs.Bytes.{digits, NumberRead, put_at};
 fn byte(bytes: &[u8], at: usize, i: usize) -> u64
     ensures { (result ≡ get_or (drop at bytes.now) i 0) × (result < 256) }
 {
-    if at < bytes.len() {
-        if i < bytes.len() - at {
-            return wide(bytes[at + i]);
-        }
+    if at < bytes.len() && i < bytes.len() - at {
+        u64::from(bytes[at + i])
+    } else {
+        0
     }
-    0
-}
-
-fn wide(b: u8) -> u64
-    ensures { (result ≡ b) × (result < 256) }
-{
-    b as u64
 }
 
 // The number in the `width` bytes at `at`; at most 8 bytes are taken.
 pub fn number(bytes: &[u8], at: usize, width: usize) -> u64
     ensures { NumberRead bytes.now at (min width 8) result }
 {
-    let mut i = width;
-    if 8 < i {
-        i = 8;
-    }
-    let mut sum: u64 = 0;
-    while 0 < i {
-        i -= 1;
+    let mut sum = 0;
+    for i in (0..width.min(8)).rev() {
         sum = sum * 256 + byte(bytes, at, i);
     }
     sum
@@ -40,17 +28,10 @@ pub fn number(bytes: &[u8], at: usize, width: usize) -> u64
 pub fn put(buffer: &mut [u8], at: usize, width: usize, x: u64)
     ensures { buffer.new ≡ put_at buffer.old at (digits (min width 8) x) }
 {
-    let mut count = width;
-    if 8 < count {
-        count = 8;
+    let count = width.min(8);
+    if count <= buffer.len() && at <= buffer.len() - count {
+        put_digits(buffer, at, count, x);
     }
-    if buffer.len() < count {
-        return;
-    }
-    if buffer.len() - count < at {
-        return;
-    }
-    put_digits(buffer, at, count, x);
 }
 
 // `put` meets the bound.
@@ -59,10 +40,8 @@ fn put_digits(buffer: &mut [u8], at: usize, count: usize, x: u64)
     ensures { buffer.new ≡ take at buffer.old ++ digits count x ++ drop (at + count) buffer.old }
 {
     let mut rest = x;
-    let mut i = 0;
-    while i < count {
+    for i in 0..count {
         buffer[at + i] = (rest % 256) as u8;
-        rest = rest / 256;
-        i += 1;
+        rest /= 256;
     }
 }

@@ -16,8 +16,7 @@ use Rattle.prover.specs.Work.{works_of, none_done}
 use Rattle.prover.specs.Calls.{NothingHeld, Opened, VerdictIs}
 use Rattle.prover.specs.Demand as made
 use Rattle.prover.specs.declared.Session.{Session}
-use Rattle.prover.specs.declared.Changed.{Changed}
-use Rattle.prover.specs.declared.Answered.{Answered}
+use Rattle.prover.specs.Told.{Changed, Answered}
 use Rattle.prover.proofs.Keeping.{ByBook, Kept, nothing_in_range, change_answer, dropped_kept, asked_as}
 use Rattle.prover.proofs.DemandThree.{call_kept}
 use Rattle.bench.specs.Calls.{Act, opening, adding, asking, act_at, number_met, book_after, one_if_refused, refusals_from, refusals, number_told, Called}

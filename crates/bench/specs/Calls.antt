@@ -5,11 +5,8 @@ use Rattle.ipl.specs.Clause.{Flat}
 use Rattle.ipl.specs.Authors.{program}
 use Rattle.ipl.specs.Book.{Book, Addition, add_flat, add_implication, add, question, opened, open_refusal, refusal, next}
 use Rattle.prover.specs.Calls.{Opened, Added, Asked}
+use Rattle.prover.specs.Told.{Told, Valid, Refuted, Refused, Changed, Answered}
 use Rattle.prover.specs.declared.Session.{Session}
-use Rattle.prover.specs.declared.Changed.{Changed}
-use Rattle.prover.specs.declared.Answered.{Answered}
-use Rattle.prover.specs.declared.Verdict.{Verdict}
-use Rattle.prover.specs.declared.Verdict.TheVariants.{Valid, Refuted, Refused}
 
 -- An opening, or an addition or a question on the session that the last one returned.
 pub data Act : Type 0 where
@@ -56,7 +53,7 @@ refusals calls sets = refusals_from calls sets (length calls / 4) 0 (opened 1)
 -- ---- the contracts of the calls
 
 -- The number of a verdict's refusal, or 0.
-abbrev pub number_told : Verdict → ℕ
+abbrev pub number_told : Told → ℕ
 number_told (Valid steps) = 0
 number_told (Refuted worlds) = 0
 number_told (Refused number place) = number

@@ -2,83 +2,74 @@
 #![tactic(auto)]
 
 ghost use Rattle.std.specs.Prelude.{◌≡◌, ◌/◌, ◌<◌, length};
+ghost use Rattle.prover.specs.Told.{changed, number_in};
 ghost use Rattle.prover.specs.Calls.{flat_of};
 ghost use Rattle.bench.specs.Exported.{Asked};
-ghost use Rattle.bench.specs.Calls.{number_told, one_if_refused, QuestionPut, act, act_at, Called, refusals};
+ghost use Rattle.bench.specs.Calls.{one_if_refused, QuestionPut, act, act_at, Called, refusals};
 
 use atoms::AtomSet;
-use prover::{Changed, Session, Verdict};
-use sat::Answer;
+use prover::{Implication, Session};
+use refusal::Refusal;
 
 // sat::ask with sets as one-row tables: true where proved; else the model is written to row 0 of `model`.
 #[unsafe(no_mangle)]
-pub extern "C" fn zestanchor_ask<'a>(
-    left: &'a [u64],
-    right: &'a [u64],
+pub extern "C" fn zestanchor_ask(
+    left: &[u64],
+    right: &[u64],
     count: usize,
     n: u8,
-    given: &'a [u64],
+    given: &[u64],
     asked: u8,
     model: &mut [u64],
 ) -> bool
     ensures { Asked left.now right.now count n given.now asked result model.old model.new }
 {
     match sat::ask(left, right, count, n, atoms::row(given, 0), asked) {
-        Answer::Proved => true,
-        Answer::Countered(m) => {
+        None => true,
+        Some(m) => {
             atoms::set_row(model, 0, m);
             false
         }
     }
 }
 
-fn number_told(verdict: Verdict) -> u8
-    ensures { result ≡ number_told verdict }
+fn one_if_refused(r: Result<(), Refusal>) -> u64
+    ensures { result ≡ one_if_refused (number_in r) }
 {
-    match verdict {
-        Verdict::Valid(_) => 0,
-        Verdict::Refuted(_) => 0,
-        Verdict::Refused(number, _) => number,
-    }
+    u64::from(r.is_err())
 }
 
-fn one_if_refused(number: u8) -> u64
-    ensures { result ≡ one_if_refused number }
+fn ask(s: &mut Session, goal: u8) -> Result<(), Refusal>
+    ensures { QuestionPut s.old goal (changed result s.new) }
 {
-    if number == 0 { 0 } else { 1 }
-}
-
-fn ask(s: Session, goal: u8) -> Changed
-    ensures { QuestionPut s goal result }
-{
-    let answered = prover::ask(s, ipl::PROGRAM, goal);
-    let verdict = answered.verdict;
-    let session = answered.session;
-    Changed {
-        refusal: number_told(verdict),
-        session,
-    }
+    s.ask(ipl::PROGRAM, goal)?;
+    Ok(())
 }
 
 // Kind 0 opens a session of a atoms, 1 adds the flat clause, 2 the implication; any other asks for a.
-fn call(s: Session, kind: u8, a: u8, b: u8, c: u8, left: AtomSet, right: AtomSet) -> Changed
-    ensures { Called s (act kind a b c (flat_of left right)) result }
+fn call(
+    s: &mut Session,
+    kind: u8,
+    a: u8,
+    b: u8,
+    c: u8,
+    left: AtomSet,
+    right: AtomSet,
+) -> Result<(), Refusal>
+    ensures { Called s.old (act kind a b c (flat_of left right)) (changed result s.new) }
 {
-    if kind == 0 {
-        prover::open(a)
-    } else if kind == 1 {
-        prover::add_flat(s, left, right)
-    } else if kind == 2 {
-        prover::add_implication(s, a, b, c)
-    } else {
-        ask(s, a)
+    match kind {
+        0 => s.open(a),
+        1 => s.add_flat(left, right),
+        2 => s.add_implication(Implication { a, b, c }),
+        _ => ask(s, a),
     }
 }
 
 // Call i of a list: four bytes of `calls`, its kind and three numbers, and two rows of `sets`.
-fn call_at(s: Session, calls: &[u8], sets: &[u64], i: usize) -> Changed
+fn call_at(s: &mut Session, calls: &[u8], sets: &[u64], i: usize) -> Result<(), Refusal>
     requires { i < length calls.now / 4 }
-    ensures { Called s (act_at calls.now sets.now i) result }
+    ensures { Called s.old (act_at calls.now sets.now i) (changed result s.new) }
 {
     let left = atoms::row(sets, 2 * i);
     let right = atoms::row(sets, 2 * i + 1);
@@ -94,20 +85,15 @@ fn call_at(s: Session, calls: &[u8], sets: &[u64], i: usize) -> Changed
     )
 }
 
-// Makes the calls, each on the session that the last one returned, and counts those refused.
+// Makes the calls, each on the session that the last one left, and counts those refused.
 #[unsafe(no_mangle)]
 pub extern "C" fn zestanchor_calls(calls: &[u8], sets: &[u64]) -> u64
     ensures { result ≡ refusals calls.now sets.now }
 {
-    let opened = prover::open(1);
-    let mut s = opened.session;
-    let mut refused: u64 = 0;
-    let mut i = 0;
-    while i < calls.len() / 4 {
-        let r = call_at(s, calls, sets, i);
-        refused += one_if_refused(r.refusal);
-        s = r.session;
-        i += 1;
+    let mut s = Session::new();
+    let mut refused = 0;
+    for i in 0..calls.len() / 4 {
+        refused += one_if_refused(call_at(&mut s, calls, sets, i));
     }
     refused
 }

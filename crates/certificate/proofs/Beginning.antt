@@ -6,19 +6,19 @@ use mathlib.Core.Path.{◌≡◌, refl, sym, ap, ◌∙◌, subst}
 use Prim.Native.Nat.{ℕ, ◌+◌, ◌-◌, ◌/◌, ◌≤◌, ◌<◌}
 use native.Mathlib.Omega.{arith}
 use lib.Dec.{T}
+use Rattle.std.proofs.Common.{Result, Err}
 use lib.ListN.{length, get_or, take, drop, length-append, length-drop, get_or-append}
 use lib.Seq.{drop-append-le, take-append-le}
 use Rattle.atoms.specs.Bytes.{value, number_at}
 use Rattle.atoms.proofs.Truth.{T_false, true_T}
-use Rattle.certificate.specs.Certificate.{refused}
 use Rattle.certificate.specs.Format.{entry_bytes, entry_start, bodies_start, claim_start, encoded_length, longest_accepted, implication_start, total_length}
 use Rattle.certificate.specs.Layout.{rows_in, entry_right, refuting, flat_count, implication_count, claim_count, claim_laid, laid_in, laid_out, problem_in, problem_of, claim_of}
 use Rattle.certificate.specs.Judge.{in_range, judge}
 use Rattle.certificate.specs.Accepted.{layout, range}
 use Rattle.certificate.specs.Checked.{judgement_of, BeginningChecked, ContentsRead}
 use Rattle.certificate.specs.declared.Contents.{Contents}
-use Rattle.certificate.specs.declared.Checked.{Checked}
-use Rattle.certificate.specs.declared.Checked.TheVariants.{Refused}
+use Rattle.certificate.specs.declared.fault.Fault.{Fault}
+use Rattle.certificate.specs.declared.fault.Fault.TheVariants as fault
 use Rattle.certificate.proofs.Tables.{flats_length, implications_length, claim_refutes, claim_rows_lem}
 use Rattle.certificate.proofs.Entries.{laid_parts, laid_length}
 use Rattle.certificate.proofs.InRange.{range_longest}
@@ -76,7 +76,7 @@ nothing_left [] e = refl
 nothing_left (x ∷ l) e = absurd (omega arith)
 
 module _ (s : List ℕ) (more : ℕ) where
-  pub beginning_whole : more ≡ 0 → (r : Checked) → judgement_of s r ≡ judge s → BeginningChecked s more r
+  pub beginning_whole : more ≡ 0 → (r : Result Contents Fault) → judgement_of s r ≡ judge s → BeginningChecked s more r
   beginning_whole e r h rest el room =
       subst (λ w. judgement_of w r ≡ judge w) (sym (ap (λ w. s ++ w) (nothing_left rest (el ∙ e)) ∙ append-nil s)) h
 
@@ -90,12 +90,12 @@ module _ (s : List ℕ) (more : ℕ) where
     laid_by rest el h =
         ap (laid_in (s ++ rest)) (length-append s rest ∙ ap (λ (z : ℕ). length s + z) el) ∙ laid_same s rest (length s + more) (omega arith)
 
-    pub beginning_unlaid : (bodies_start ≤ length s → laid_in s (length s + more) ≡ false) → (number : ℕ) → number ≡ 13 → BeginningChecked s more (Refused number 0)
-    beginning_unlaid f number en rest el room =
+    pub beginning_unlaid : (bodies_start ≤ length s → laid_in s (length s + more) ≡ false) → BeginningChecked s more (Err fault.Layout)
+    beginning_unlaid f rest el room =
         let h = long rest el room in
-        ap (λ (z : ℕ). refused z 0) en ∙ sym ((refused_iff (s ++ rest) 13 0).1 (layout (laid_by rest el h ∙ f (omega arith))))
+        sym ((refused_iff (s ++ rest) 13 0).1 (layout (laid_by rest el h ∙ f (omega arith))))
 
-    pub beginning_long : (k : Contents) → ContentsRead s (length s + more) k → BeginningChecked s more (Refused 14 0)
+    pub beginning_long : (k : Contents) → ContentsRead s (length s + more) k → BeginningChecked s more (Err fault.Range)
     beginning_long k r rest el room =
         let h = long rest el room in
         let t = true_T (laid_by rest el h ∙ r.laid) in

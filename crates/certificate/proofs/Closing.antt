@@ -1,10 +1,10 @@
 -- The closing clause of an implication, as the code looks for it.
-use mathlib.Core.Bool.{true, false}
+use mathlib.Core.Bool.{true}
 use mathlib.Core.List.{List}
 use mathlib.Core.Path.{◌≡◌, refl, ap₂, ◌∙◌}
 use Prim.Native.Nat.{ℕ, ◌+◌, ◌*◌, ◌<◌}
 use native.Mathlib.Omega.{arith}
-use lib.Dec.{T, eqb}
+use lib.Dec.{T}
 use borrow.Author.Tests.{eq-eqb, ne_eqb}
 use Rattle.atoms.specs.Sets.{limit}
 use Rattle.atoms.specs.Words.{single_or_empty}
@@ -19,15 +19,6 @@ use Rattle.certificate.specs.Layout.{implication_from, problem_in}
 use Rattle.certificate.specs.Checked.{Ranged, problem_by, claim_by}
 use Rattle.certificate.specs.declared.Contents.{Contents}
 use Rattle.certificate.proofs.InRange.{implications_below_limit}
-
-module _ (L R : ℕ) (f : Flat) where
-  pub flat_differs : eqb L f.left ≡ false → false ≡ same_flat (record { left = L; right = R }) f
-  unfolding same_flat
-  flat_differs e = rw e refl
-
-  pub flat_same : eqb L f.left ≡ true → eqb R f.right ≡ same_flat (record { left = L; right = R }) f
-  unfolding same_flat
-  flat_same e = rw e refl
 
 module _ (F : List Flat) (i : Implication) where
   pub closed_bottom : i.b ≡ bot → true ≡ closed F i
@@ -44,10 +35,9 @@ module _ (F : List Flat) (i : Implication) where
       (el ∙ single_one limit i.b (omega arith) below.b) (er ∙ single_one limit i.c (omega arith) below.c))
 
 -- The implications of bytes in range have atoms in range over all there is room for.
-pub implication_ranged : (s : List ℕ) (k : Contents) → Ranged s k → (start : ℕ) → start ≡ implication_start k.flats → (i : ℕ) → i < k.implications
-    → T (implication_in_range limit (implication_from s (start + implication_bytes * i)))
+pub implication_ranged : (s : List ℕ) (k : Contents) → Ranged s k → (i : ℕ) → i < k.implications
+    → T (implication_in_range limit (implication_from s (implication_start k.flats + implication_bytes * i)))
 unfolding problem_in
-implication_ranged s k r start es i l =
-    rw es
-    (true_T (all_at (implication_in_range limit) (λ j. implication_from s (implication_start k.flats + implication_bytes * j)) i k.implications l
-    (implications_below_limit (problem_by s k) (claim_by s k) r.ranged)))
+implication_ranged s k r i l =
+    true_T (all_at (implication_in_range limit) (λ j. implication_from s (implication_start k.flats + implication_bytes * j)) i k.implications l
+    (implications_below_limit (problem_by s k) (claim_by s k) r.ranged))

@@ -2,9 +2,10 @@
 use mathlib.Core.Bool.{Bool, true, false, ◌&&◌}
 use mathlib.Core.List.{List}
 use mathlib.Core.Path.{◌≡◌, refl, sym, ap, ◌∙◌, subst}
-use Prim.Native.Nat.{ℕ, ◌+◌, ◌-◌, ◌*◌, ◌/◌, ◌≤◌, ◌<◌}
-use native.Mathlib.Nat.{mul-div-le}
+use Prim.Native.Nat.{ℕ, ◌+◌, ◌-◌, ◌*◌, ◌/◌, ◌%◌, ◌≤◌, ◌<◌}
+use Rattle.std.proofs.Common.{Option, Some, None}
 use native.Mathlib.Omega.{arith}
+use Rattle.std.proofs.Math.Nat.{mul-mod_right, div-add-mod}
 use lib.Dec.{T, eqb, leb, eqb→eq, leb→le}
 use lib.ListN.{length, get_or}
 use borrow.Author.Tests.{eq-eqb, eqb-true, eqb-false, le-leb}
@@ -15,10 +16,6 @@ use Rattle.certificate.specs.Format.{entries, entry_bytes, entry_start, bodies_s
 use Rattle.certificate.specs.Layout.{rows_in, entry_right, refuting, flat_count, implication_count, claim_count, claim_laid, laid_in, laid_out}
 use Rattle.certificate.specs.Checked.{EntryFound, EntryRead, ClaimFound, ClaimRead, ContentsRead, BeginningRead}
 use Rattle.certificate.specs.declared.Contents.{Contents}
-use Rattle.certificate.specs.declared.layout.Entry.{Entry}
-use Rattle.certificate.specs.declared.layout.Entry.TheVariants.{Rows, Missing}
-use Rattle.certificate.specs.declared.layout.Layout.{Layout}
-use Rattle.certificate.specs.declared.layout.Layout.TheVariants.{Read, Refused}
 
 -- ---- one entry
 
@@ -66,27 +63,28 @@ module _ (s : List ℕ) (at kind start extra width : ℕ) where
     pub entry_short : size < extra → entry_right s at kind start extra width ≡ false
     entry_short h = entry_false (λ p. omega (arith, p.size_is, read))
 
-    pub entry_uneven : (extra + width * ((size - extra) / width) ≡ size → ⊥) → entry_right s at kind start extra width ≡ false
-    entry_uneven f = entry_false (λ p. f (ap (λ (z : ℕ). extra + width * z) rows_read ∙ sym (read ∙ p.size_is)))
+    pub entry_uneven : ((size - extra) % width ≡ 0 → ⊥) → entry_right s at kind start extra width ≡ false
+    entry_uneven f =
+        entry_false (λ p.
+        let whole : size - extra ≡ width * rows_in s at extra width = omega (arith, p.size_is, read) in
+        f (ap (λ (z : ℕ). z % width) whole ∙ mul-mod_right width (rows_in s at extra width)))
 
-    pub entry_found : (next : ℕ) → next ≡ at + entry_bytes → get_or s at 0 ≡ kind → number_at s (at + 1) 4 ≡ start → extra + width * ((size - extra) / width) ≡ size
+    pub entry_found : (next : ℕ) → next ≡ at + entry_bytes → get_or s at 0 ≡ kind → number_at s (at + 1) 4 ≡ start → extra ≤ size → (size - extra) % width ≡ 0
         → EntryFound s at kind start extra width ((size - extra) / width) next
-    entry_found next en ek es e = record {
-      right = entry_true (record { kind_is = ek; start_is = es; size_is = sym read ∙ sym e ∙ ap (λ (z : ℕ). extra + width * z) rows_read });
-      count_is = rows_read;
-      next_is = en;
-    }
+    entry_found next en ek es h e =
+        let whole : extra + width * ((size - extra) / width) ≡ size = omega (arith, div-add-mod (size - extra) width) in
+        record {
+          right = entry_true (record { kind_is = ek; start_is = es; size_is = sym read ∙ sym whole ∙ ap (λ (z : ℕ). extra + width * z) rows_read });
+          count_is = rows_read;
+          next_is = en;
+        }
 
   -- The same entry, by what its place, kind, start and width are.
-  entry_as : (e : Entry) (at' kind' start' width' : ℕ) → at ≡ at' → kind ≡ kind' → start ≡ start' → width ≡ width'
-      → EntryRead s at kind start extra width e → EntryRead s at' kind' start' extra width' e
-  entry_as e at' kind' start' width' ea ek es ew h =
-      subst (λ z. EntryRead s z kind' start' extra width' e) ea (subst (λ z. EntryRead s at z start' extra width' e) ek
-      (subst (λ z. EntryRead s at kind z extra width' e) es (subst (λ z. EntryRead s at kind start extra z e) ew h)))
-
--- The rows of a body are no more than its bytes.
-pub rows_few : (size extra width : ℕ) → width * ((size - extra) / width) ≤ size
-rows_few size extra width = omega (arith, mul-div-le (size - extra) width)
+  entry_as : (next : ℕ) (e : Option ℕ) (at' kind' start' width' : ℕ) → at ≡ at' → kind ≡ kind' → start ≡ start' → width ≡ width'
+      → EntryRead s at kind start extra width next e → EntryRead s at' kind' start' extra width' next e
+  entry_as next e at' kind' start' width' ea ek es ew h =
+      subst (λ z. EntryRead s z kind' start' extra width' next e) ea (subst (λ z. EntryRead s at z start' extra width' next e) ek
+      (subst (λ z. EntryRead s at kind z extra width' next e) es (subst (λ z. EntryRead s at kind start extra z next e) ew h)))
 
 -- ---- the last entry
 
@@ -143,16 +141,16 @@ module _ (s : List ℕ) (L F X at b kind start width : ℕ) (ea : at ≡ entry_s
   unfolding refuting
   of_kind P h = subst P (ap (λ z. eqb z world_kind) (eb ∙ ap (λ z. get_or s z 0) ea)) h
 
-  as_claim : (e : Entry) → EntryRead s at kind start 0 width e → EntryRead s (entry_start 3) (claim_kind r) (claim_start F X) 0 (claim_width r) e
-  as_claim e h = entry_as s at kind start 0 width e (entry_start 3) (claim_kind r) (claim_start F X) (claim_width r) ea ek es ew h
+  as_claim : (next : ℕ) (e : Option ℕ) → EntryRead s at kind start 0 width next e → EntryRead s (entry_start 3) (claim_kind r) (claim_start F X) 0 (claim_width r) next e
+  as_claim next e h = entry_as s at kind start 0 width next e (entry_start 3) (claim_kind r) (claim_start F X) (claim_width r) ea ek es ew h
 
-  pub claim_missing : EntryRead s at kind start 0 width Missing → bodies_start ≤ length s → claim_laid s L F X (refuting s) ≡ false
-  claim_missing h there =
-      of_kind (λ z. claim_laid s L F X z ≡ false) (claim_false s L F X r (λ p. false_T (as_claim Missing h there) p.entry))
+  pub claim_missing : (next : ℕ) → EntryRead s at kind start 0 width next None → bodies_start ≤ length s → claim_laid s L F X (refuting s) ≡ false
+  claim_missing next h there =
+      of_kind (λ z. claim_laid s L F X z ≡ false) (claim_false s L F X r (λ p. false_T (as_claim next None h there) p.entry))
 
-  module _ (rows next : ℕ) (read : EntryRead s at kind start 0 width (Rows rows next)) where
+  module _ (rows next : ℕ) (read : EntryRead s at kind start 0 width next (Some rows)) where
     count_read : rows ≡ rows_last s r
-    count_read = (as_claim (Rows rows next) read).count_is
+    count_read = (as_claim next (Some rows) read).count_is
 
     pub claim_few : (least : ℕ) → least ≡ claim_least r → rows < least → claim_laid s L F X (refuting s) ≡ false
     claim_few least e h = of_kind (λ z. claim_laid s L F X z ≡ false) (claim_false s L F X r (λ p. omega (arith, p.some, count_read, e)))
@@ -169,7 +167,7 @@ module _ (s : List ℕ) (L F X at b kind start width : ℕ) (ea : at ≡ entry_s
       unfolding claim_count
       claim_found least el h e = record {
         laid = of_kind (λ z. claim_laid s L F X z ≡ true) (claim_true s L F X r (record {
-          entry = true_T (as_claim (Rows rows next) read).right;
+          entry = true_T (as_claim next (Some rows) read).right;
           some = omega (arith, count_read, el);
           end = eqb-true L end e ∙ end_is;
         }));
@@ -254,8 +252,8 @@ module _ (s : List ℕ) (L : ℕ) where
   pub broken_four : (b : ℕ) → b ≡ get_or s 0 0 → (b ≡ entries → ⊥) → laid_in s L ≡ false
   broken_four b e f = laid_false (λ p. f (e ∙ p.four))
 
-  pub broken_first : EntryRead s (entry_start 0) flat_kind bodies_start 1 flat_bytes Missing → bodies_start ≤ length s → laid_in s L ≡ false
-  broken_first h there = laid_false (λ p. false_T (h (omega arith)) p.first)
+  pub broken_first : (next : ℕ) → EntryRead s (entry_start 0) flat_kind bodies_start 1 flat_bytes next None → bodies_start ≤ length s → laid_in s L ≡ false
+  broken_first next h there = laid_false (λ p. false_T (h (omega arith)) p.first)
 
   -- The flat clauses are read, and the second entry is asked for after the first.
   module _ (F second_at : ℕ) (flats : EntryFound s (entry_start 0) flat_kind bodies_start 1 flat_bytes F second_at) (start : ℕ) (es : start ≡ implication_start F) where
@@ -263,19 +261,19 @@ module _ (s : List ℕ) (L : ℕ) where
     unfolding flat_count
     flats_are = flats.count_is
 
-    as_second : (e : Entry) → EntryRead s second_at implication_kind start 0 implication_bytes e
-        → EntryRead s (entry_start 1) implication_kind (implication_start F) 0 implication_bytes e
-    as_second e h =
-        entry_as s second_at implication_kind start 0 implication_bytes e (entry_start 1) implication_kind (implication_start F) implication_bytes flats.next_is refl es refl h
+    as_second : (next : ℕ) (e : Option ℕ) → EntryRead s second_at implication_kind start 0 implication_bytes next e
+        → EntryRead s (entry_start 1) implication_kind (implication_start F) 0 implication_bytes next e
+    as_second next e h =
+        entry_as s second_at implication_kind start 0 implication_bytes next e (entry_start 1) implication_kind (implication_start F) implication_bytes flats.next_is refl es refl h
 
-    pub broken_second : EntryRead s second_at implication_kind start 0 implication_bytes Missing → bodies_start ≤ length s → laid_in s L ≡ false
-    broken_second h there =
-        laid_false (λ p. false_T (subst (λ (z : ℕ). second_test s z ≡ false) flats_are (as_second Missing h (omega arith))) p.second)
+    pub broken_second : (next : ℕ) → EntryRead s second_at implication_kind start 0 implication_bytes next None → bodies_start ≤ length s → laid_in s L ≡ false
+    broken_second next h there =
+        laid_false (λ p. false_T (subst (λ (z : ℕ). second_test s z ≡ false) flats_are (as_second next None h (omega arith))) p.second)
 
     -- The implications are read, and the third entry is asked for after the second.
-    module _ (X third_at : ℕ) (implications : EntryRead s second_at implication_kind start 0 implication_bytes (Rows X third_at)) (goal-at : ℕ) (eg : goal-at ≡ goal_start F X) where
+    module _ (X third_at : ℕ) (implications : EntryRead s second_at implication_kind start 0 implication_bytes third_at (Some X)) (goal_at : ℕ) (eg : goal_at ≡ goal_start F X) where
       second_read : EntryFound s (entry_start 1) implication_kind (implication_start F) 0 implication_bytes X third_at
-      second_read = as_second (Rows X third_at) implications
+      second_read = as_second third_at (Some X) implications
 
       implications_are : X ≡ implication_count s
       unfolding implication_count
@@ -285,18 +283,18 @@ module _ (s : List ℕ) (L : ℕ) where
       at_counts : (P : ℕ → ℕ → Type 0) → P F X → P (flat_count s) (implication_count s)
       at_counts P h = subst (λ (z : ℕ). P z (implication_count s)) flats_are (subst (P F) implications_are h)
 
-      as_third : (e : Entry) → EntryRead s third_at goal_kind goal-at 0 1 e → EntryRead s (entry_start 2) goal_kind (goal_start F X) 0 1 e
-      as_third e h = entry_as s third_at goal_kind goal-at 0 1 e (entry_start 2) goal_kind (goal_start F X) 1 second_read.next_is refl eg refl h
+      as_third : (next : ℕ) (e : Option ℕ) → EntryRead s third_at goal_kind goal_at 0 1 next e → EntryRead s (entry_start 2) goal_kind (goal_start F X) 0 1 next e
+      as_third next e h = entry_as s third_at goal_kind goal_at 0 1 next e (entry_start 2) goal_kind (goal_start F X) 1 second_read.next_is refl eg refl h
 
-      pub broken_third : EntryRead s third_at goal_kind goal-at 0 1 Missing → bodies_start ≤ length s → laid_in s L ≡ false
-      broken_third h there = laid_false (λ p. false_T (at_counts (λ f x. third_test s f x ≡ false) (as_third Missing h (omega arith))) p.third)
+      pub broken_third : (next : ℕ) → EntryRead s third_at goal_kind goal_at 0 1 next None → bodies_start ≤ length s → laid_in s L ≡ false
+      broken_third next h there = laid_false (λ p. false_T (at_counts (λ f x. third_test s f x ≡ false) (as_third next None h (omega arith))) p.third)
 
       -- The goal's entry is read.
-      module _ (G last-at : ℕ) (goals : EntryRead s third_at goal_kind goal-at 0 1 (Rows G last-at)) where
-        third_read : EntryFound s (entry_start 2) goal_kind (goal_start F X) 0 1 G last-at
-        third_read = as_third (Rows G last-at) goals
+      module _ (G last_at : ℕ) (goals : EntryRead s third_at goal_kind goal_at 0 1 last_at (Some G)) where
+        third_read : EntryFound s (entry_start 2) goal_kind (goal_start F X) 0 1 G last_at
+        third_read = as_third last_at (Some G) goals
 
-        pub last_place : last-at ≡ entry_start 3
+        pub last_place : last_at ≡ entry_start 3
         last_place = third_read.next_is
 
         pub broken_goal : (G ≡ 1 → ⊥) → laid_in s L ≡ false
@@ -307,7 +305,7 @@ module _ (s : List ℕ) (L : ℕ) where
 
         all_read : get_or s 0 0 ≡ entries → G ≡ 1 → (k : Contents) → ClaimFound s L F X k → ContentsRead s L k
         all_read e g k claim =
-            let laid-last = at_counts (λ f x. T (claim_laid s L f x (refuting s))) (true_T claim.laid) in
+            let laid_last = at_counts (λ f x. T (claim_laid s L f x (refuting s))) (true_T claim.laid) in
             let are = claim.contents_are
             ∙ at_counts (λ f x. ◌≡◌ {A = Contents} (record { flats = F; implications = X; refuting = refuting s; rows = claim_count s })
             (record { flats = f; implications = x; refuting = refuting s; rows = claim_count s })) refl in
@@ -317,7 +315,7 @@ module _ (s : List ℕ) (L : ℕ) where
               second = subst (λ (z : ℕ). T (second_test s z)) flats_are (true_T second_read.right);
               third = at_counts (λ f x. T (third_test s f x)) (true_T third_read.right);
               goal_one = sym third_read.count_is ∙ g;
-              last = laid-last;
+              last = laid_last;
             } in
             record {
               laid = laid_true parts;
@@ -326,9 +324,9 @@ module _ (s : List ℕ) (L : ℕ) where
             }
 
         -- What is read of the claim is what is read of the whole.
-        pub claim_read : get_or s 0 0 ≡ entries → G ≡ 1 → (r : Layout) → ClaimRead s L F X r → BeginningRead s L r
-        claim_read e g (Read k) h = all_read e g k h
-        claim_read e g (Refused number) h = (h.0, λ there. broken_last (h.1 there))
+        pub claim_read : get_or s 0 0 ≡ entries → G ≡ 1 → (r : Option Contents) → ClaimRead s L F X r → BeginningRead s L r
+        claim_read e g (Some k) h = all_read e g k h
+        claim_read e g None h = λ there. broken_last (h there)
 
 -- ---- all bytes
 

@@ -6,6 +6,8 @@ use mathlib.Core.Path.{◌≡◌, refl, sym, ap}
 use Prim.Native.Nat.{ℕ, ◌≤◌, ◌<◌}
 use native.Mathlib.Omega.{arith}
 use lib.ListN.{length}
+use Rattle.std.proofs.Common.{Option, Some, None, MatchOption}
+use Rattle.certificate.specs.Checked.{found_at}
 use Rattle.ipl.specs.Search.{Step}
 use Rattle.ipl.proofs.First.{first_none, first_at_lem}
 use Rattle.certificate.specs.Certificate.{Problem, valid, refuted}
@@ -21,6 +23,14 @@ module _ (p : Problem) (W : List ℕ) (count : ℕ) (many : length W ≡ count) 
   pub worlds_right : (i : ℕ) → count ≤ i → ((j : ℕ) → j < i → world_right p W j ≡ true) → none ≡ wrong_place p (refuted W)
   unfolding wrong_place or_else
   worlds_right i l h = sym (first_none (world_right p W) (length W) (λ j k. h j (omega arith)))
+
+  -- As a search finds it.
+  pub world_found : (r : Option ℕ)
+      → MatchOption r ((j : ℕ) → 0 ≤ j → j < count → world_right p W j ≡ true)
+      (λ i. (0 ≤ i) × (i < count) × (world_right p W i ≡ false) × ((j : ℕ) → 0 ≤ j → j < i → world_right p W j ≡ true))
+      → found_at r ≡ wrong_place p (refuted W)
+  world_found None h = worlds_right count (omega arith) (λ j l. h j (omega arith) l)
+  world_found (Some i) h = world_wrong i h.1 (λ j l. h.3 j (omega arith) l) h.2
 
 -- ---- steps
 

@@ -1,9 +1,11 @@
 -- The judgement, refusal by refusal, and what must hold before the claim is judged.
 use mathlib.Core.Bool.{true, false}
 use mathlib.Core.List.{List}
-use mathlib.Core.Option.{Option}
-use mathlib.Core.Path.{◌≡◌, refl, ap, subst}
-use Prim.Native.Nat.{ℕ, ◌+◌, ◌*◌, ◌≤◌}
+use mathlib.Core.Option as math
+use Rattle.std.proofs.Common.{Option, Some, None, Result, Err}
+use Rattle.std.specs.Option.{ok_or}
+use mathlib.Core.Path.{◌≡◌, refl, ap, ◌∙◌, subst}
+use Prim.Native.Nat.{ℕ, ◌+◌, ◌≤◌}
 use native.Mathlib.Omega.{arith}
 use lib.Dec.{T, leb, leb→le}
 use lib.ListN.{length, get_or}
@@ -14,13 +16,15 @@ use Rattle.ipl.specs.Lists.{all}
 use Rattle.ipl.specs.Range.{flat_table, step_table}
 use Rattle.ipl.specs.Search.{step_in_range}
 use Rattle.certificate.specs.Certificate.{Problem, Claim, refused}
-use Rattle.certificate.specs.Format.{set_bytes, flat_bytes, bodies_start, flat_start, claim_start}
+use Rattle.certificate.specs.Format.{bodies_start, claim_start}
 use Rattle.certificate.specs.Layout.{laid_out, problem_in, claim_in, problem_of, claim_of}
 use Rattle.certificate.specs.Judge.{claim_in_range, in_range, all_closed, wrong_place, judge_claim, judge_read, judge}
-use Rattle.certificate.specs.Checked.{problem_by, claim_by, steps_by, ContentsRead, Ranged, ColumnLoaded, StepsReady, WorldsReady}
+use Rattle.certificate.specs.Checked.{judgement_of, SheetOf, problem_by, claim_by, steps_by, ContentsRead, Ranged, FlatsLoaded, StepsReady, WorldsReady}
 use Rattle.certificate.specs.declared.Contents.{Contents}
+use Rattle.certificate.specs.declared.fault.Fault.{Fault}
+use Rattle.certificate.specs.declared.sheet.Sheet.{Sheet}
 use Rattle.certificate.proofs.InRange.{range_parts}
-use Rattle.certificate.proofs.Tables.{flats_length, steps_length, columns_loaded}
+use Rattle.certificate.proofs.Tables.{flats_length, steps_length}
 
 -- ---- the refusals in order
 
@@ -32,6 +36,17 @@ pub laid : (s : List ℕ) (k : Contents) → ContentsRead s (length s) k → jud
 unfolding judge problem_of claim_of
 laid s k r = rw r.laid (ap (λ (z : Contents). judge_read (problem_by s z) (claim_by s z)) r.contents_are)
 
+-- The bodies of a certificate that keeps the layout.
+pub laid_sheet : (s : List ℕ) (sheet : Sheet) → SheetOf s sheet → (r : Result Contents Fault)
+    → judgement_of sheet.bytes.now r ≡ judge_read (problem_by sheet.bytes.now sheet.contents) (claim_by sheet.bytes.now sheet.contents) → judgement_of s r ≡ judge s
+laid_sheet s sheet h r e =
+    subst (λ z. judgement_of z r ≡ judge_read (problem_by z sheet.contents) (claim_by z sheet.contents)) h.same e ∙ laid s sheet.contents h.contents
+
+-- Without contents, the fault is the one given.
+pub fault_given : {A : Type 0} (o : Option A) (e f : Fault) → o ≡ None → ◌≡◌ {A = Result A Fault} (Err e) (ok_or o f) → e ≡ f
+fault_given None e f h q = cc
+fault_given (Some x) e f h q = cc
+
 module _ (p : Problem) (c : Claim) where
   pub unranged : in_range p c ≡ false → refused 14 0 ≡ judge_read p c
   unfolding judge_read
@@ -42,7 +57,7 @@ module _ (p : Problem) (c : Claim) where
     unfolding judge_read
     unclosed e = rw (range, e) refl
 
-    pub claimed : all_closed p ≡ true → (o : Option ℕ) → o ≡ wrong_place p c → judge_claim p c o ≡ judge_read p c
+    pub claimed : all_closed p ≡ true → (o : math.Option ℕ) → o ≡ wrong_place p c → judge_claim p c o ≡ judge_read p c
     unfolding judge_read
     claimed e o w = rw (range, e, ← w) refl
 
@@ -57,12 +72,9 @@ module _ (s : List ℕ) (k : Contents) (ranged : Ranged s k) where
   pub flats_fit : (t : List ℕ) (words : ℕ) → length t ≡ words → flat_table ≤ words → k.flats ≤ row_count t
   flats_fit t words e h = omega (arith, row_count_words t words e, flats_few)
 
-  pub column_there : (start : ℕ) → start ≤ flat_start + flat_bytes → start + flat_bytes * k.flats ≤ length s + flat_bytes
-  column_there start h = omega (arith, ranged.sized)
-
-  module _ (l0 left r0 right : List ℕ) (l : ColumnLoaded s flat_start k.flats l0 left) (r : ColumnLoaded s (flat_start + set_bytes) k.flats r0 right) where
+  module _ (l0 left r0 right : List ℕ) (h : FlatsLoaded s k.flats l0 r0 left right) where
     pub worlds_ready : k.refuting ≡ true → WorldsReady s k left right
-    worlds_ready e = record { ranged = ranged; refutes = e; loaded = columns_loaded s k.flats l0 left r0 right l r }
+    worlds_ready e = record { ranged = ranged; refutes = e; loaded = h.loaded }
 
     steps_few : k.refuting ≡ false → k.rows ≤ step_table
     unfolding claim_in_range claim_in problem_in
@@ -83,7 +95,7 @@ module _ (s : List ℕ) (k : Contents) (ranged : Ranged s k) where
         let few = steps_few e in record {
           ranged = ranged;
           derives = e;
-          room_left = omega (arith, flats_few, same_rows left l0 l.size, row_count_words l0 (flat_table + step_table) el);
-          room_right = omega (arith, flats_few, same_rows right r0 r.size, row_count_words r0 (flat_table + step_table) er);
-          loaded = columns_loaded s k.flats l0 left r0 right l r;
+          room_left = omega (arith, flats_few, same_rows left l0 h.size_left, row_count_words l0 (flat_table + step_table) el);
+          room_right = omega (arith, flats_few, same_rows right r0 h.size_right, row_count_words r0 (flat_table + step_table) er);
+          loaded = h.loaded;
         }

@@ -67,9 +67,9 @@ module _ (s : List ℕ) (k : Contents) (ranged : Ranged s k) where
         (T_right (leb (length (steps_by s k)) step_table) (all (step_in_range atoms k.implications) (steps_by s k)) t)
 
     -- Step i, as it is read, which names an implication.
-    module _ (i : ℕ) (listed : i < k.rows) (place : ℕ) (ep : place ≡ start) (step : Step) (es : step ≡ step_from s (place + step_bytes * i)) where
+    module _ (i : ℕ) (listed : i < k.rows) (step : Step) (es : step ≡ step_from s (start + step_bytes * i)) where
       step_is : step_at (steps_by s k) i ≡ step
-      step_is = tabulate_at (λ j. step_from s (start + step_bytes * j)) no_step k.rows i listed ∙ ap (λ z. step_from s (z + step_bytes * i)) (sym ep) ∙ sym es
+      step_is = tabulate_at (λ j. step_from s (start + step_bytes * j)) no_step k.rows i listed ∙ sym es
 
       pub number_small : step.number < k.implications
       unfolding step_in_range
@@ -80,16 +80,16 @@ module _ (s : List ℕ) (k : Contents) (ranged : Ranged s k) where
           (All_at (λ z. T (step_in_range atoms k.implications z)) (steps_by s k) no_step steps_ranged i (omega (arith, steps_length s start k.rows)))))
 
       -- The implication, as it is read.
-      module _ (first : ℕ) (ef : first ≡ implication_start k.flats) (x : Implication) (ex : x ≡ implication_from s (first + implication_bytes * step.number)) where
+      module _ (x : Implication) (ex : x ≡ implication_from s (implication_start k.flats + implication_bytes * step.number)) where
         implication_is : implication_at (problem_by s k).implications (step_at (steps_by s k) i).number ≡ x
         unfolding problem_in
         implication_is =
             ap (λ (z : Step). implication_at (problem_by s k).implications z.number) step_is
             ∙ tabulate_at (λ j. implication_from s (implication_start k.flats + implication_bytes * j)) no_implication k.implications step.number number_small
-            ∙ ap (λ z. implication_from s (z + implication_bytes * step.number)) (sym ef) ∙ sym ex
+            ∙ sym ex
 
         x_below : ImplicationBelow limit x
-        x_below = implication_below limit x (subst (λ j. T (implication_in_range limit j)) (sym ex) (implication_ranged s k ranged first ef step.number number_small))
+        x_below = implication_below limit x (subst (λ j. T (implication_in_range limit j)) (sym ex) (implication_ranged s k ranged step.number number_small))
 
         module _ (left right : List ℕ) (loaded : clauses left right (k.flats + i) ≡ known_by s k i) where
           pub step_judged : (n : ℕ) → n ≡ atoms
@@ -120,15 +120,15 @@ module _ (s : List ℕ) (k : Contents) (ranged : Ranged s k) where
 
     -- After all steps: the goal.
     pub goal_judged : (i : ℕ) → i ≡ k.rows → (left right : List ℕ) → clauses left right (k.flats + i) ≡ known_by s k i
-        → (n at g empty : ℕ) → n ≡ atoms → at ≡ goal_start k.flats k.implications → g ≡ get_or s at 0 → empty ≡ 0
+        → (n g empty : ℕ) → n ≡ atoms → g ≡ get_or s (goal_start k.flats k.implications) 0 → empty ≡ 0
         → is_none (ask (min n limit) (clauses left right (k.flats + k.rows)) empty g) ≡ goal_proved (problem_by s k) (steps_by s k)
     unfolding goal_proved problem_in
-    goal_judged i e left right loaded n at g empty en ea eg ez =
-        let all_Known = known (problem_by s k).flats (problem_by s k).implications (steps_by s k) in
-        let known_all : clauses left right (k.flats + k.rows) ≡ all_Known =
+    goal_judged i e left right loaded n g empty en eg ez =
+        let all_known = known (problem_by s k).flats (problem_by s k).implications (steps_by s k) in
+        let known_all : clauses left right (k.flats + k.rows) ≡ all_known =
         subst (λ (z : ℕ). clauses left right (k.flats + z) ≡ known_by s k z) e loaded
         ∙ ap (known (problem_by s k).flats (problem_by s k).implications) (take_all k.rows (steps_by s k) (omega (arith, steps_length s start k.rows))) in
-        rw (known_all, ez, n_small n en) (ap (λ (z : ℕ). is_none (ask atoms all_Known 0 z)) (eg ∙ ap (λ z. get_or s z 0) ea))
+        rw (known_all, ez, n_small n en) (ap (λ (z : ℕ). is_none (ask atoms all_known 0 z)) eg)
 
 -- ---- the steps in order
 

@@ -6,6 +6,7 @@ pub mod InRange
 pub mod Worlds
 pub mod FirstWrong
 pub mod Tables
+pub mod Chains
 pub mod Learning
 pub mod Judging
 pub mod Encoding

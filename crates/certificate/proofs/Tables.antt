@@ -1,20 +1,21 @@
 -- The rows of the bytes: how many there are, and tables of clauses loaded from them.
 use mathlib.Core.Bool.{Bool, true, false}
-use mathlib.Core.List.{List}
+use mathlib.Core.List.{List, [], ◌∷◌, ◌++◌}
 use mathlib.Core.Path.{◌≡◌, refl, sym, ap, ap₂, ◌∙◌}
 use Prim.Native.Nat.{ℕ, ◌+◌, ◌*◌, ◌≤◌, ◌<◌}
-use native.Mathlib.Decide.{ℕ_discrete}
+use native.Mathlib.Numerals.{add-one}
 use native.Mathlib.Omega.{arith}
 use lib.ListN.{length}
-use Rattle.atoms.specs.Words.{row_of, row_count, RowSet}
-use Rattle.atoms.specs.Bytes.{number_at}
+use Rattle.atoms.specs.Words.{row_count, RowSet}
 use Rattle.atoms.proofs.Machine.{same_rows}
 use Rattle.ipl.specs.Clause.{Flat}
-use Rattle.sat.specs.Table.{clause_at, clauses}
+use Rattle.ipl.specs.Lists.{tabulate}
+use Rattle.sat.specs.Table.{clauses}
+use Rattle.sat.proofs.Table.{clauses_more}
 use Rattle.certificate.specs.Format.{set_bytes, flat_bytes, implication_bytes, step_bytes, refutes, rows_of, flat_start}
 use Rattle.certificate.specs.Layout.{flat_from, implication_from, step_from, world_from, flats_in, implications_in, steps_in, worlds_in, claim_in}
-use Rattle.certificate.specs.Checked.{ColumnLoaded}
-use Rattle.ipl.proofs.Lists.{tabulate_length, tabulate_same}
+use Rattle.certificate.specs.Checked.{FlatsLoaded}
+use Rattle.ipl.proofs.Lists.{tabulate_length}
 
 pub flats_length : (s : List ℕ) (count : ℕ) → length (flats_in s count) ≡ count
 flats_length s count = tabulate_length (λ k. flat_from s (flat_start + flat_bytes * k)) count
@@ -39,29 +40,22 @@ unfolding rows_of claim_in
 claim_rows_lem s at true R = worlds_length s at R
 claim_rows_lem s at false R = steps_length s at R
 
--- ---- columns
+-- ---- the flat clauses loaded
 
-pub column_none : (s : List ℕ) (start : ℕ) (table : List ℕ) → ColumnLoaded s start 0 table table
-column_none s start table = record { size = refl; rows_are = λ k l. absurd (omega arith) }
+pub loaded_none : (s left right : List ℕ) → FlatsLoaded s 0 left right left right
+unfolding clauses tabulate
+loaded_none s left right = record { size_left = refl; size_right = refl; loaded = refl }
 
--- One row more.
-pub column_next : (s : List ℕ) (start i : ℕ) (before table after : List ℕ) (x : ℕ) → ColumnLoaded s start i before table → i < row_count before
-    → RowSet table i x after → x ≡ number_at s (start + flat_bytes * i) set_bytes → ColumnLoaded s start (i + 1) before after
-column_next s start i before table after x c room set e = record {
-  size = set.size ∙ c.size;
-  rows_are = λ k l. elim (ℕ_discrete k i) [
-    | yes d ↦ ap (row_of after) d ∙ set.written (omega (arith, same_rows table before c.size)) ∙ e ∙ ap (λ (z : ℕ). number_at s (start + flat_bytes * z) set_bytes) (sym d)
-    | no d ↦ set.others k d ∙ c.rows_are k (omega arith)
-  ];
+-- One clause more.
+pub loaded_next : (s : List ℕ) (count i : ℕ) (left0 right0 left right : List ℕ) → FlatsLoaded s i left0 right0 left right → i < count
+    → count ≤ row_count left0 → count ≤ row_count right0 → (f : Flat) (left2 right2 : List ℕ) → f ≡ flat_from s (flat_start + flat_bytes * i)
+    → RowSet left i f.left left2 → RowSet right i f.right right2 → FlatsLoaded s (i + 1) left0 right0 left2 right2
+unfolding tabulate
+loaded_next s count i left0 right0 left right h few room_left room_right f left2 right2 e l r = record {
+  size_left = l.size ∙ h.size_left;
+  size_right = r.size ∙ h.size_right;
+  loaded = clauses_more left right left2 right2 i f.left f.right l r
+      (omega (arith, same_rows left left0 h.size_left)) (omega (arith, same_rows right right0 h.size_right))
+      ∙ ap₂ (λ (q : List Flat) (g : Flat). q ++ (g ∷ [])) h.loaded e
+      ∙ sym (ap (flats_in s) (add-one i));
 }
-
-pub column_done : (s : List ℕ) (start count i : ℕ) (before after : List ℕ) → count ≤ i → ColumnLoaded s start i before after → ColumnLoaded s start count before after
-column_done s start count i before after h c = record { size = c.size; rows_are = λ k l. c.rows_are k (omega arith) }
-
-pub columns_loaded : (s : List ℕ) (count : ℕ) (l0 left r0 right : List ℕ) → ColumnLoaded s flat_start count l0 left
-    → ColumnLoaded s (flat_start + set_bytes) count r0 right → clauses left right count ≡ flats_in s count
-unfolding clauses flat_from
-columns_loaded s count l0 left r0 right l r =
-    tabulate_same (clause_at left right) (λ k. flat_from s (flat_start + flat_bytes * k)) count (λ k h.
-    let next : flat_start + set_bytes + flat_bytes * k ≡ flat_start + flat_bytes * k + set_bytes = omega arith in
-    ap₂ {C = Flat} (λ (x y : ℕ). record { left = x; right = y }) (l.rows_are k h) (r.rows_are k h ∙ ap (λ (z : ℕ). number_at s z set_bytes) next))

@@ -31,7 +31,7 @@ implication_kind = 2
 abbrev pub goal_kind : ℕ
 goal_kind = 3
 
-abbrev step_kind : ℕ
+abbrev pub step_kind : ℕ
 step_kind = 4
 
 abbrev pub world_kind : ℕ

@@ -2,12 +2,10 @@
 ghost use Rattle.std.specs.Prelude.{false, ◌≡◌};
 ghost use Rattle.certificate.specs.Certificate.{valid};
 ghost use Rattle.certificate.specs.Judge.{wrong_place};
-ghost use Rattle.certificate.specs.Checked.{Ranged, problem_by, steps_by, StepsReady, StepReady, StepJudged, place_of};
+ghost use Rattle.certificate.specs.Checked.{Ranged, problem_by, steps_by, StepsReady, StepReady, StepJudged, found_at};
 
-use super::bytes_at::byte;
-use super::flat_table::load_column;
-use super::places::{ATOM_COUNT_AT, FLATS_AT, IMPLICATION_BYTES, SET_BYTES, STEP_BYTES};
-use super::{Contents, Wrong, rows};
+use super::flat_table::load_flats;
+use super::sheet::Sheet;
 use atoms::AtomSet;
 
 // Rows learned that are kept from step to step.
@@ -15,26 +13,24 @@ const KEPT: usize = 1024;
 
 // Judges step i by the clauses before it, and puts its clause after them. The rows kept follow from them, before and after.
 fn judge_step(
-    bytes: &[u8],
-    k: Contents,
+    sheet: &Sheet,
     i: usize,
     left: &mut [u64],
     right: &mut [u64],
     kept: &mut [u64],
     learned: usize,
 ) -> sat::Proof
-    requires { StepReady bytes.now k i left.old right.old kept.old learned }
-    ensures { StepJudged bytes.now k i left.old right.old left.new right.new kept.new result }
+    requires { StepReady sheet.now.bytes.now sheet.now.contents i left.old right.old kept.old learned }
+    ensures { StepJudged sheet.now.bytes.now sheet.now.contents i left.old right.old left.new right.new kept.new result }
 {
-    let step = rows::step_from(bytes, k.claim_at() + STEP_BYTES * i);
-    let place = k.implications_at() + IMPLICATION_BYTES * step.number as usize;
-    let x = rows::implication_from(bytes, place);
-    let last = k.flats as usize + i;
+    let step = sheet.step(i);
+    let x = sheet.implication(usize::from(step.number));
+    let last = sheet.contents.flats as usize + i;
     let proof = sat::proves(
         left,
         right,
         last,
-        byte(bytes, ATOM_COUNT_AT),
+        sheet.atom_count(),
         step.assumed,
         x.b,
         kept,
@@ -47,52 +43,44 @@ fn judge_step(
 
 // Each step in order, then the goal. `wrong_step` loads the flat clauses.
 fn judge_steps(
-    bytes: &[u8],
-    k: Contents,
+    sheet: &Sheet,
     left: &mut [u64],
     right: &mut [u64],
     kept: &mut [u64],
-) -> Wrong
-    requires { StepsReady bytes.now k left.old right.old }
-    ensures { place_of result ≡ wrong_place (problem_by bytes.now k) (valid (steps_by bytes.now k)) }
+) -> Option<usize>
+    requires { StepsReady sheet.now.bytes.now sheet.now.contents left.old right.old }
+    ensures { found_at result ≡ wrong_place (problem_by sheet.now.bytes.now sheet.now.contents) (valid (steps_by sheet.now.bytes.now sheet.now.contents)) }
 {
-    let count = k.rows as usize;
+    let count = sheet.contents.rows as usize;
     let mut learned = 0;
-    let mut i = 0;
-    while i < count {
-        let step = judge_step(bytes, k, i, left, right, kept, learned);
+    for i in 0..count {
+        let step = judge_step(sheet, i, left, right, kept, learned);
         if !step.proved {
-            return Wrong::At(i);
+            return Some(i);
         }
         learned = step.kept;
-        i += 1;
     }
     let proof = sat::proves(
         left,
         right,
-        k.flats as usize + count,
-        byte(bytes, ATOM_COUNT_AT),
+        sheet.contents.flats as usize + count,
+        sheet.atom_count(),
         AtomSet::EMPTY,
-        byte(bytes, k.goal_at()),
+        sheet.goal(),
         kept,
         learned,
     );
-    if proof.proved {
-        Wrong::Nothing
-    } else {
-        Wrong::At(count)
-    }
+    if proof.proved { None } else { Some(count) }
 }
 
-// `wrong_place` meets the ranges.
-pub fn wrong_step(bytes: &[u8], k: Contents) -> Wrong
-    requires { Ranged bytes.now k × (k.refuting ≡ false) }
-    ensures { place_of result ≡ wrong_place (problem_by bytes.now k) (valid (steps_by bytes.now k)) }
+// The first wrong step; the number of steps where only the goal fails. `wrong_place` meets the ranges.
+pub fn wrong_step(sheet: &Sheet) -> Option<usize>
+    requires { Ranged sheet.now.bytes.now sheet.now.contents × (sheet.now.contents.refuting ≡ false) }
+    ensures { found_at result ≡ wrong_place (problem_by sheet.now.bytes.now sheet.now.contents) (valid (steps_by sheet.now.bytes.now sheet.now.contents)) }
 {
     let mut left = [0u64; ipl::KNOWN * atoms::WORDS];
     let mut right = [0u64; ipl::KNOWN * atoms::WORDS];
-    load_column(bytes, FLATS_AT, k.flats as usize, &mut left);
-    load_column(bytes, FLATS_AT + SET_BYTES, k.flats as usize, &mut right);
+    load_flats(sheet, &mut left, &mut right);
     let mut kept = [0u64; 2 * KEPT * atoms::WORDS];
-    judge_steps(bytes, k, &mut left, &mut right, &mut kept)
+    judge_steps(sheet, &mut left, &mut right, &mut kept)
 }

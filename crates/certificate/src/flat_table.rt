@@ -1,19 +1,18 @@
 // The flat clauses as a table of sets, for classical questions.
-ghost use Rattle.std.specs.Prelude.{◌+◌, ◌*◌, ◌≤◌, length};
+ghost use Rattle.std.specs.Prelude.{◌≡◌, ◌≤◌, length};
 ghost use Rattle.atoms.specs.Words.{row_count};
-ghost use Rattle.certificate.specs.Format.{flat_bytes};
-ghost use Rattle.certificate.specs.Checked.{ColumnLoaded};
+ghost use Rattle.certificate.specs.Checked.{FlatsLoaded};
 
-use super::places::FLAT_BYTES;
+use super::sheet::Sheet;
 
-// One side of the clauses, the first at `start`. The callers' tables have a row for each clause.
-pub fn load_column(bytes: &[u8], start: usize, count: usize, table: &mut [u64])
-    requires { (start + flat_bytes * count ≤ length bytes.now + flat_bytes) × (count ≤ row_count table.old) }
-    ensures { ColumnLoaded bytes.now start count table.old table.new }
+// Both sides of the clauses. The callers' tables have a row for each clause.
+pub fn load_flats(sheet: &Sheet, left: &mut [u64], right: &mut [u64])
+    requires { (sheet.now.contents.flats ≤ row_count left.old) × (sheet.now.contents.flats ≤ row_count right.old) }
+    ensures { FlatsLoaded sheet.now.bytes.now sheet.now.contents.flats left.old right.old left.new right.new }
 {
-    let mut i = 0;
-    while i < count {
-        atoms::set_row(table, i, atoms::load(bytes, start + FLAT_BYTES * i));
-        i += 1;
+    for i in 0..sheet.contents.flats as usize {
+        let f = sheet.flat(i);
+        atoms::set_row(left, i, f.left);
+        atoms::set_row(right, i, f.right);
     }
 }

@@ -3,16 +3,19 @@
 
 ghost use Rattle.std.specs.Prelude.{◌≡◌};
 ghost use Rattle.certificate.specs.Judge.{judge, judge_read, wrong_place};
-ghost use Rattle.certificate.specs.Checked.{judgement_of, BeginningChecked, problem_by, claim_by, Sized, Ranged, place_of};
+ghost use Rattle.certificate.specs.Checked.{judgement_of, BeginningChecked, problem_by, claim_by, Ranged, found_at};
 
 use atoms::AtomSet;
+use sheet::Sheet;
 
 mod bytes_at;
 mod closing_clauses;
 mod countermodel;
+mod fault;
 mod read_back;
 mod reader;
 
+pub use fault::Fault;
 pub use read_back::{atom_count, flat_at, goal, implication_at, step_at, world_at};
 
 mod derivation;
@@ -21,6 +24,7 @@ mod layout;
 pub mod places;
 mod ranges;
 mod rows;
+mod sheet;
 
 // How many rows each body has, a number of 32 bits as its length is; whether the last one holds worlds or steps.
 #[derive(Clone, Copy)]
@@ -29,20 +33,6 @@ pub struct Contents {
     pub implications: u32,
     pub refuting: bool,
     pub rows: u32,
-}
-
-// Accepted, or the number of the refusal with the place of a wrong claim.
-#[derive(Clone, Copy)]
-pub enum Checked {
-    Accepted(Contents),
-    Refused(u8, usize),
-}
-
-// The first step or world that is wrong; the number of steps where only the goal fails.
-#[derive(Clone, Copy)]
-pub enum Wrong {
-    Nothing,
-    At(usize),
 }
 
 // (left, right)
@@ -67,55 +57,50 @@ pub struct StepRow {
     pub assumed: AtomSet,
 }
 
-// Judges any bytes: 13, 14, 15, 16 with its place, or accepted.
-pub fn check(bytes: &[u8]) -> Checked
+// Judges any bytes.
+pub fn check(bytes: &[u8]) -> Result<Contents, Fault>
     ensures { judgement_of bytes.now result ≡ judge bytes.now }
 {
-    match layout::read(bytes) {
-        layout::Layout::Read(k) => check_bodies(bytes, k),
-        layout::Layout::Refused(number) => Checked::Refused(number, 0),
-    }
+    let sheet = Sheet::read(bytes).ok_or(Fault::Layout)?;
+    check_bodies(&sheet)
 }
 
 // Judges a certificate of which these bytes are the beginning and `more` follow unseen. Layout needs only the contents and the length
 // of all bytes; one that is longer than the longest in range has a count over its table.
-pub fn check_beginning(bytes: &[u8], more: usize) -> Checked
+pub fn check_beginning(bytes: &[u8], more: usize) -> Result<Contents, Fault>
     ensures { BeginningChecked bytes.now more result }
 {
     if more == 0 {
         return check(bytes);
     }
-    match layout::read_beginning(bytes, more) {
-        layout::Layout::Read(_) => Checked::Refused(14, 0),
-        layout::Layout::Refused(number) => Checked::Refused(number, 0),
-    }
+    layout::read_beginning(bytes, more).ok_or(Fault::Layout)?;
+    Err(Fault::Range)
 }
 
-// Judges the bodies. `check` meets the size by the layout.
-fn check_bodies(bytes: &[u8], k: Contents) -> Checked
-    requires { Sized bytes.now k }
-    ensures { judgement_of bytes.now result ≡ judge_read (problem_by bytes.now k) (claim_by bytes.now k) }
+// Judges the bodies.
+fn check_bodies(sheet: &Sheet) -> Result<Contents, Fault>
+    ensures { judgement_of sheet.now.bytes.now result ≡ judge_read (problem_by sheet.now.bytes.now sheet.now.contents) (claim_by sheet.now.bytes.now sheet.now.contents) }
 {
-    if !ranges::in_range(bytes, k) {
-        return Checked::Refused(14, 0);
+    if !ranges::in_range(sheet) {
+        return Err(Fault::Range);
     }
-    if !closing_clauses::all_closed(bytes, k) {
-        return Checked::Refused(15, 0);
+    if !closing_clauses::all_closed(sheet) {
+        return Err(Fault::NotClosed);
     }
-    match wrong_place(bytes, k) {
-        Wrong::Nothing => Checked::Accepted(k),
-        Wrong::At(place) => Checked::Refused(16, place),
+    match wrong_place(sheet) {
+        None => Ok(sheet.contents),
+        Some(place) => Err(Fault::Wrong(place)),
     }
 }
 
 // The place of what is wrong in the claim. `check_bodies` meets the ranges.
-fn wrong_place(bytes: &[u8], k: Contents) -> Wrong
-    requires { Ranged bytes.now k }
-    ensures { place_of result ≡ wrong_place (problem_by bytes.now k) (claim_by bytes.now k) }
+fn wrong_place(sheet: &Sheet) -> Option<usize>
+    requires { Ranged sheet.now.bytes.now sheet.now.contents }
+    ensures { found_at result ≡ wrong_place (problem_by sheet.now.bytes.now sheet.now.contents) (claim_by sheet.now.bytes.now sheet.now.contents) }
 {
-    if k.refuting {
-        countermodel::wrong_world(bytes, k)
+    if sheet.contents.refuting {
+        countermodel::wrong_world(sheet)
     } else {
-        derivation::wrong_step(bytes, k)
+        derivation::wrong_step(sheet)
     }
 }

@@ -1,5 +1,6 @@
 // Where each part of a certificate stands: once for the reader, the writer and what is read back.
 ghost use Rattle.std.specs.Prelude.{◌≡◌};
+ghost use Rattle.certificate.specs.Kinds.{byte_of};
 ghost use Rattle.certificate.specs.Format.{claim_kind, claim_width, implication_start, goal_start, claim_start, total_length};
 
 use super::Contents;
@@ -16,15 +17,23 @@ pub const STEP_BYTES: usize = 1 + SET_BYTES;
 pub const WORLD_BYTES: usize = SET_BYTES;
 
 // The kinds of the entries.
-pub const FLAT_KIND: u8 = 1;
+#[derive(Clone, Copy, Debug, PartialEq, Eq)]
+pub enum Kind {
+    Flats = 1,
+    Implications = 2,
+    Goal = 3,
+    Steps = 4,
+    Worlds = 5,
+}
 
-pub const IMPLICATION_KIND: u8 = 2;
-
-pub const GOAL_KIND: u8 = 3;
-
-pub const STEP_KIND: u8 = 4;
-
-pub const WORLD_KIND: u8 = 5;
+impl Kind {
+    // The byte that stands for it.
+    pub fn byte(self) -> u8
+        ensures { result ≡ byte_of self }
+    {
+        self as u8
+    }
+}
 
 // The number of entries is byte 0; the entries follow.
 pub const ENTRIES: u8 = 4;
@@ -39,10 +48,10 @@ pub const ATOM_COUNT_AT: usize = ENTRIES_AT + ENTRIES as usize * ENTRY_BYTES;
 
 pub const FLATS_AT: usize = ATOM_COUNT_AT + 1;
 
-pub fn claim_kind(refuting: bool) -> u8
-    ensures { result ≡ claim_kind refuting }
+pub fn claim_kind(refuting: bool) -> Kind
+    ensures { byte_of result ≡ claim_kind refuting }
 {
-    if refuting { WORLD_KIND } else { STEP_KIND }
+    if refuting { Kind::Worlds } else { Kind::Steps }
 }
 
 pub fn claim_width(refuting: bool) -> usize

@@ -1,93 +1,63 @@
-// The contents, entry by entry. The functions over a `Reader` are thin over a core that takes a slice and an offset.
-ghost use Rattle.std.specs.Prelude.{◌≡◌};
-ghost use Rattle.certificate.specs.Reading.{stands_at, next_at, RowRead, TakenRead};
+// The contents, entry by entry: a cursor over the bytes.
+ghost use Rattle.std.specs.Prelude.{◌≡◌, ◌<◌};
+ghost use Rattle.certificate.specs.Reading.{entry_at, TakenRead};
+ghost use Rattle.certificate.specs.Kinds.{byte_of};
+ghost use Rattle.certificate.specs.Checked.{RowsRead};
 
 use super::bytes_at::byte;
-use super::places::ENTRY_BYTES;
+use super::places::{ENTRY_BYTES, Kind};
 use atoms::little_endian::number;
 
-// One entry of the contents: kind, start and length; or fewer bytes than it has.
+// One entry of the contents.
 #[derive(Clone, Copy)]
-pub enum Row {
-    Entry(u8, u64, u64),
-    End,
-}
-
-// An entry, and the position after it.
-#[derive(Clone, Copy)]
-pub struct Taken {
-    pub row: Row,
-    pub next: usize,
+pub struct Entry {
+    pub kind: u8,
+    pub start: u32,
+    pub size: u32,
 }
 
 // The lent bytes and a position.
 #[derive(Clone, Copy)]
-struct Reader<'a> {
-    src: &'a [u8],
-    at: usize,
+pub struct Reader<'a> {
+    pub src: &'a [u8],
+    pub at: usize,
 }
 
-// Room for an entry at `at`; the sum `at + ENTRY_BYTES` could wrap.
-fn stands_at(bytes: &[u8], at: usize) -> bool
-    ensures { result ≡ stands_at bytes.now at }
+// The entry at `at`; nothing where fewer bytes than it has are left.
+fn entry_at(bytes: &[u8], at: usize) -> Option<Entry>
+    ensures { result ≡ entry_at bytes.now at }
 {
-    if bytes.len() < ENTRY_BYTES {
-        return false;
+    let last = bytes.len().checked_sub(ENTRY_BYTES)?;
+    if last < at {
+        return None;
     }
-    at <= bytes.len() - ENTRY_BYTES
+    Some(Entry {
+        kind: byte(bytes, at),
+        start: number(bytes, at + 1, 4) as u32,
+        size: number(bytes, at + 5, 4) as u32,
+    })
 }
 
-fn entry_at(bytes: &[u8], at: usize) -> Row
-    ensures { RowRead bytes.now at result }
-{
-    if !stands_at(bytes, at) {
-        return Row::End;
+impl<'a> Reader<'a> {
+    // Takes the entry at the position and moves past it; where none is left, it stays.
+    pub fn take(&mut self) -> Option<Entry>
+        ensures { TakenRead self.old self.new result }
+    {
+        let entry = entry_at(self.src, self.at)?;
+        self.at += ENTRY_BYTES;
+        Some(entry)
     }
-    let start = number(bytes, at + 1, 4);
-    let size = number(bytes, at + 5, 4);
-    Row::Entry(byte(bytes, at), start, size)
-}
 
-// The position after the entry at `at`; where none stands, `at`.
-fn after_entry(bytes: &[u8], at: usize) -> usize
-    ensures { result ≡ next_at bytes.now at }
-{
-    if stands_at(bytes, at) {
-        at + ENTRY_BYTES
-    } else {
-        at
+    // Takes an entry that must be of this kind and start: the rows of a width in its body after `extra` bytes.
+    pub fn rows(&mut self, kind: Kind, start: usize, extra: usize, width: usize) -> Option<u32>
+        requires { 0 < width }
+        ensures { RowsRead self.old (byte_of kind) start extra width self.new result }
+    {
+        let entry = self.take()?;
+        let body = (entry.size as usize).checked_sub(extra)?;
+        if entry.kind != kind.byte() || entry.start as usize != start || body % width != 0 {
+            return None;
+        }
+        Some((body / width) as u32)
     }
-}
-
-fn open<'a>(src: &'a [u8], at: usize) -> Reader<'a>
-    ensures { (result.src ≡ src.entry) × (result.at ≡ at) }
-{
-    Reader { src, at }
-}
-
-// The entry at the reader's position.
-fn entry<'a>(r: Reader<'a>) -> Row
-    ensures { RowRead r.entry.src.now r.entry.at result }
-{
-    entry_at(r.src, r.at)
-}
-
-// The reader past that entry.
-fn moved<'a>(r: Reader<'a>) -> Reader<'a>
-    ensures { (result.src ≡ r.entry.src) × (result.at ≡ next_at r.entry.src.now r.entry.at) }
-{
-    Reader {
-        src: r.src,
-        at: after_entry(r.src, r.at),
-    }
-}
-
-// Opens a reader at a position and takes one entry; whoever calls this needs no walk.
-pub fn take(bytes: &[u8], at: usize) -> Taken
-    ensures { TakenRead bytes.now at result }
-{
-    let r = open(bytes, at);
-    let row = entry(r);
-    let past = moved(r);
-    Taken { row, next: past.at }
 }

@@ -7,6 +7,25 @@ ghost use Rattle.certificate.specs.ReadBack.{flat_of, implication_of, step_of};
 use super::bytes_at::byte;
 use super::places::SET_BYTES;
 use super::{FlatRow, ImplicationRow, StepRow};
+use atoms::AtomSet;
+
+impl FlatRow {
+    pub const EMPTY: FlatRow = FlatRow {
+        left: AtomSet::EMPTY,
+        right: AtomSet::EMPTY,
+    };
+}
+
+impl ImplicationRow {
+    pub const EMPTY: ImplicationRow = ImplicationRow { a: 0, b: 0, c: 0 };
+}
+
+impl StepRow {
+    pub const EMPTY: StepRow = StepRow {
+        number: 0,
+        assumed: AtomSet::EMPTY,
+    };
+}
 
 pub fn flat_from(bytes: &[u8], at: usize) -> FlatRow
     requires { at + flat_bytes ≤ length bytes.now }

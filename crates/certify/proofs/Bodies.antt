@@ -1,33 +1,45 @@
 -- Laws of a body put row by row.
 use mathlib.Core.List.{List, ◌++◌}
-use mathlib.Core.Path.{◌≡◌, sym, ap, ◌∙◌, subst}
+use mathlib.Core.Path.{◌≡◌, refl, sym, ap, ◌∙◌}
 use native.Mathlib.Nat.{mul-le-mul_left}
 use native.Mathlib.Numerals.{add-one}
 use native.Mathlib.Omega.{arith}
-use Prim.Native.Nat.{ℕ, ◌+◌, ◌*◌, ◌≤◌, ◌<◌}
-use lib.ListN.{length}
+use Prim.Native.Nat.{ℕ, zero, suc, ◌+◌, ◌*◌, ◌≤◌, ◌<◌}
+use lib.ListN.{length, length-append}
 use Rattle.atoms.specs.Bytes.{put_at}
 use Rattle.atoms.proofs.Bytes.{put_next, put_nothing}
 use Rattle.ipl.specs.Lists.{tabulate}
-use Rattle.ipl.proofs.Lists.{tabulate_length}
 use Rattle.certificate.specs.Format.{each}
-use Rattle.certificate.proofs.Encoding.{length_each, each_snoc}
+use Rattle.certificate.proofs.Encoding.{each_snoc}
+use Rattle.certify.specs.Writing.{row_after_row}
+
+-- The rows of a table as those of a list.
+pub rows_each : {A : Type 0} (row : A → List ℕ) (f : ℕ → A) (n : ℕ) → row_after_row (λ i. row (f i)) n ≡ each row (tabulate f n)
+unfolding row_after_row tabulate each
+rows_each row f zero = refl
+rows_each row f (suc n) = ap (λ l. l ++ row (f n)) (rows_each row f n) ∙ sym (each_snoc row (tabulate f n) (f n))
+
+pub rows_none : (row : ℕ → List ℕ) (b : List ℕ) (at : ℕ) → b ≡ put_at b at (row_after_row row 0)
+unfolding row_after_row
+rows_none row b at = put_nothing b at
+
+-- Row i of a table that has room.
+pub row_within : (width w at i n count size : ℕ) → w ≡ width → n ≡ count → i < n → at + width * count ≤ size → at + w * i + width ≤ size
+row_within width w at i n count size e f h room =
+    let fits : width * (i + 1) ≤ width * count = mul-le-mul_left width (omega (arith, f, h)) in
+    let same : w * i ≡ width * i = ap (λ w. w * i) e in
+    omega (arith, same)
 
 -- What a loop over the rows of a table keeps.
-module _ {A : Type 0} (row : A → List ℕ) (width : ℕ) (wide : (x : A) → length (row x) ≡ width) (f : ℕ → A) (b : List ℕ) (at : ℕ) where
-  pub rows_none : b ≡ put_at b at (each row (tabulate f 0))
-  unfolding tabulate each
-  rows_none = put_nothing b at
+module _ (row : ℕ → List ℕ) (width : ℕ) (wide : (i : ℕ) → length (row i) ≡ width) where
+  length_rows : (n : ℕ) → length (row_after_row row n) ≡ width * n
+  unfolding row_after_row
+  length_rows zero = omega arith
+  length_rows (suc n) = omega (arith, length-append (row_after_row row n) (row n), wide n, length_rows n)
 
-  -- Row i of the table is x.
-  pub rows_next : (b1 b2 : List ℕ) (i count : ℕ) (x : A) → i < count → at + width * count ≤ length b
-      → b1 ≡ put_at b at (each row (tabulate f i)) → b2 ≡ put_at b1 (at + width * i) (row x) → x ≡ f i → b2 ≡ put_at b at (each row (tabulate f (i + 1)))
-  unfolding tabulate
-  rows_next b1 b2 i count x h room first second same =
-      let size : length (each row (tabulate f i)) ≡ width * i = length_each row width wide (tabulate f i) ∙ ap (λ (n : ℕ). width * n) (tabulate_length f i) in
-      let fits : width * (i + 1) ≤ width * count = mul-le-mul_left width (omega arith) in
-      put_next b b1 b2 at (at + width * i) (each row (tabulate f i)) (row x) (omega arith) (omega (arith, wide x)) first second
-      ∙ ap (put_at b at) (ap (λ (y : A). each row (tabulate f i) ++ row y) same ∙ sym (rw (add-one i) (each_snoc row (tabulate f i) (f i))))
-
-  pub rows_end : (b1 : List ℕ) (i count : ℕ) → i ≤ count → count ≤ i → b1 ≡ put_at b at (each row (tabulate f i)) → b1 ≡ put_at b at (each row (tabulate f count))
-  rows_end b1 i count h k e = subst (λ (n : ℕ). b1 ≡ put_at b at (each row (tabulate f n))) {x = i} {y = count} (omega arith) e
+  pub rows_next : (b b1 b2 : List ℕ) (at i count : ℕ) → i < count → at + width * count ≤ length b
+      → b1 ≡ put_at b at (row_after_row row i) → b2 ≡ put_at b1 (at + width * i) (row i) → b2 ≡ put_at b at (row_after_row row (i + 1))
+  unfolding row_after_row
+  rows_next b b1 b2 at i count h room first second =
+      put_next b b1 b2 at (at + width * i) (row_after_row row i) (row i) (omega (arith, length_rows i)) (omega (arith, wide i, row_within width width at i count count (length b) refl refl h room)) first second
+      ∙ ap (put_at b at) (sym (rw (add-one i) refl))

@@ -27,8 +27,7 @@ use Rattle.prover.specs.declared.Work.{Work}
 use Rattle.prover.specs.declared.Held.{Held}
 use Rattle.prover.specs.declared.Held.TheVariants as held
 use Rattle.prover.specs.declared.Session.{Session}
-use Rattle.prover.specs.declared.Changed.{Changed}
-use Rattle.prover.specs.declared.Answered.{Answered}
+use Rattle.prover.specs.Told.{Changed, Answered}
 use Rattle.prover.specs.declared.GoalRecord.{GoalRecord}
 use Rattle.prover.proofs.Keeping.{ByBook, Kept, nothing_in_range, dropped_kept, set_kept, asked_as}
 use Rattle.prover.proofs.PageRuns.{EntryRun, EntriesRun, searched_kept, entry_book, entry_stays, author_known, page_follows, page_unchanged}
@@ -43,8 +42,9 @@ use Rattle.certify.specs.Held.{Certificate, bytes_of, certificate_held}
 use Rattle.certify.specs.Written.{told_of, length_told, WrittenAs}
 use Rattle.certify.specs.Demand.{with_problem, keeps_answer, keeps_entry, keeps_entries, keeps, last_answer, WrittenFrom, WrittenAfter, DemandTwoWritten}
 use Rattle.certify.proofs.Buffer.{bytes_counted, length_given}
-use Rattle.certify.specs.declared.Length.{Length}
-use Rattle.certify.specs.declared.Length.TheVariants.{Bytes, Refused}
+use Rattle.std.specs.Prelude.{Result, Ok, Err}
+use Rattle.refusal.specs.declared.Refusal.{Refusal}
+use Rattle.refusal.specs.declared.Refusal.TheVariants.{Range}
 use Rattle.atoms.proofs.Bytes.{take_put}
 
 -- ---- what a run keeps
@@ -194,15 +194,15 @@ run_stands (c ∷ cs) s x h run =
 
 -- The length told is that of what stands.
 told_standing : (s : Session) (x : Option Certificate) → Standing s x → length_told s ≡ told_of x
-told_standing s x h = ap (λ (b : Bool). cond b (told_of (certificate_held s s.held)) (Refused 5)) h.is_in_range ∙ ap told_of h.held_is
+told_standing s x h = ap (λ (b : Bool). cond b (told_of (certificate_held s s.held)) (Err Range)) h.is_in_range ∙ ap told_of h.held_is
 
-written_from : (s : Session) (x : Option Certificate) → Standing s x → (before : List ℕ) (r : Length) (after : List ℕ) → WrittenAs x before r after → WrittenFrom s x before r after
+written_from : (s : Session) (x : Option Certificate) → Standing s x → (before : List ℕ) (r : Result ℕ Refusal) (after : List ℕ) → WrittenAs x before r after → WrittenFrom s x before r after
 written_from s none h before r after w = (w.answer, told_standing s none h)
 written_from s (some x) h before r after w = record {
   accepted_back = λ n e.
       let l = length_given x before r after w n e in
       ap judge (ap₂ (λ (m : ℕ) (b : List ℕ). take m b) (sym l.0) w.buffer ∙ take_put before (bytes_of x) l.1) ∙ encode_accepted x.problem x.claim h.right;
-  told = told_standing s (some x) h ∙ ap Bytes (sym (bytes_counted x));
+  told = told_standing s (some x) h ∙ ap Ok (sym (bytes_counted x));
 }
 
 -- From a session that holds a reached book and no verdict.

@@ -28,8 +28,9 @@ use Rattle.certificate.proofs.Encoding.{length_each, length_flat, length_implica
 use Rattle.certify.specs.Held.{Certificate, bytes_of, length_of, claim_held, certificate_of, certificate_held}
 use Rattle.certify.specs.Writing.{rows_held, contents_held}
 use Rattle.certify.specs.Written.{WrittenAs, Written}
-use Rattle.certify.specs.declared.Length.{Length}
-use Rattle.certify.specs.declared.Length.TheVariants.{Bytes, Refused}
+use Rattle.std.specs.Prelude.{Result, Ok, Err}
+use Rattle.refusal.specs.declared.Refusal.{Refusal}
+use Rattle.refusal.specs.declared.Refusal.TheVariants.{Range, NoRoom}
 use Rattle.atoms.proofs.Bytes.{put_past, put_next}
 use Rattle.certify.proofs.Parts.{part_next}
 
@@ -133,17 +134,17 @@ module _ (s : Session) (g : ℕ) (r : Bool) (k : Contents) (same : k ≡ content
   length_held = encode_length p c ∙ length_counted
 
   -- 10: the buffer has fewer bytes.
-  pub too_long : (b : List ℕ) (n : ℕ) → n ≡ size → length b < n → WrittenAs (some (certificate_of s g r)) b (Refused 10) b
+  pub too_long : (b : List ℕ) (n : ℕ) → n ≡ size → length b < n → WrittenAs (some (certificate_of s g r)) b (Err NoRoom) b
   too_long b n n-is h =
       let more : length b < whole = omega (arith, length_counted) in
       record {
-        answer = sym (ap (λ t. cond t (Bytes whole) (Refused 10)) (lt-leb whole (length b) more));
+        answer = sym (ap (λ t. cond t (Ok whole) (Err NoRoom)) (lt-leb whole (length b) more));
         buffer = put_past b 0 (encode p c) (omega (arith, length_held));
       }
 
   -- The contents, then the bodies.
   pub whole_written : (b b1 b2 : List ℕ) (n : ℕ) → n ≡ size → n ≤ length b → b1 ≡ put_at b 0 contents_put
-      → b2 ≡ put_at b1 bodies_start (bodies p (claim_held s k.refuting)) → WrittenAs (some (certificate_of s g r)) b (Bytes n) b2
+      → b2 ≡ put_at b1 bodies_start (bodies p (claim_held s k.refuting)) → WrittenAs (some (certificate_of s g r)) b (Ok n) b2
   whole_written b b1 b2 n n-is h e1 e2 =
       let own : k.refuting ≡ r = ap (λ (z : Contents). z.refuting) same in
       let put : b2 ≡ put_at b1 bodies_start (bodies p c) = e2 ∙ ap (λ (t : Bool). put_at b1 bodies_start (bodies p (claim_held s t))) own in
@@ -151,16 +152,16 @@ module _ (s : Session) (g : ℕ) (r : Bool) (k : Contents) (same : k ≡ content
       let room : bodies_start + length (bodies p c) ≤ length b = omega (arith, length_held, ap length encode_is, length-append contents_put (bodies p c), length_contents) in
       record {
         answer =
-            ap Bytes (n-is ∙ sym length_counted) ∙ sym (ap (λ t. cond t (Bytes whole) (Refused 10)) (le-leb whole (length b) fits));
+            ap Ok (n-is ∙ sym length_counted) ∙ sym (ap (λ t. cond t (Ok whole) (Err NoRoom)) (le-leb whole (length b) fits));
         buffer = put_next b b1 b2 0 bodies_start contents_put (bodies p c) (omega (arith, length_contents)) room e1 put ∙ ap (put_at b 0) (sym encode_is);
       }
 
 -- ---- what the call says
 
-pub refused_five : (s : Session) (before : List ℕ) → in_range s ≡ false → Written s before (Refused 5) before
+pub refused_five : (s : Session) (before : List ℕ) → in_range s ≡ false → Written s before (Err Range) before
 refused_five s before e = record { out_of_range = λ _. (refl, refl); written = λ h. absurd (true≢false (sym h ∙ e)) }
 
-pub verdict_written : (s : Session) (before : List ℕ) (r : Length) (after : List ℕ) (v : Held) → in_range s ≡ true → s.held ≡ v → WrittenAs (certificate_held s v) before r after
+pub verdict_written : (s : Session) (before : List ℕ) (r : Result ℕ Refusal) (after : List ℕ) (v : Held) → in_range s ≡ true → s.held ≡ v → WrittenAs (certificate_held s v) before r after
     → Written s before r after
 verdict_written s before r after v h e w = record {
   out_of_range = λ f. absurd (true≢false (sym h ∙ f));

@@ -1,7 +1,9 @@
 -- Demand 2, what is written: "every sheet written from a session opened by us and changed only through its calls is accepted and
 -- reads back as the problem and answer it came from"; the length told is that of the sheet.
-use Rattle.std.specs.Prelude.{cond, List, [], ◌∷◌, map, ◌≡◌, ℕ, eqb, length, take}
+use Rattle.std.specs.Prelude.{cond, List, [], ◌∷◌, map, ◌≡◌, ℕ, eqb, length, take, Result, Ok, Err}
 use Rattle.std.proofs.Math.Option.{Option, none, some, or_else}
+use Rattle.refusal.specs.declared.Refusal.{Refusal}
+use Rattle.refusal.specs.declared.Refusal.TheVariants.{NoVerdict}
 use Rattle.ipl.specs.Book as B
 use Rattle.ipl.specs.Search.{Outcome}
 use Rattle.ipl.specs.Page.{Entry, searched, refuted_by}
@@ -9,14 +11,12 @@ use Rattle.ipl.specs.Book.{Book, Call, opened, answer_to, refusal, after_entry, 
 use Rattle.prover.specs.Calls.{Opened}
 use Rattle.prover.specs.Demand.{Made, call_of, Run, end_of}
 use Rattle.prover.specs.declared.Session.{Session}
-use Rattle.prover.specs.declared.Changed.{Changed}
+use Rattle.prover.specs.Told.{Changed}
 use Rattle.certificate.specs.Certificate.{Claim, accepted}
 use Rattle.certificate.specs.Judge.{judge}
 use Rattle.certificate.specs.Written.{problem_of_book, claim_of_verdict}
 use Rattle.certify.specs.Held.{Certificate, bytes_of}
 use Rattle.certify.specs.Written.{length_told, Written}
-use Rattle.certify.specs.declared.Length.{Length}
-use Rattle.certify.specs.declared.Length.TheVariants.{Bytes, Refused}
 
 -- The problem and answer of a question put to the book, where it gets a verdict.
 abbrev pub with_problem : Book → ℕ → Option Claim → Option Certificate
@@ -52,20 +52,20 @@ last_answer k x [] = x
 last_answer k x (c ∷ cs) = last_answer (next k c) (keeps k c x) cs
 
 -- Of what was written of s into a buffer, where x is the problem and answer.
-pub record CertificateWritten (s : Session) (x : Certificate) (before : List ℕ) (r : Length) (after : List ℕ) : Type 0 where
+pub record CertificateWritten (s : Session) (x : Certificate) (before : List ℕ) (r : Result ℕ Refusal) (after : List ℕ) : Type 0 where
   -- It "is accepted and reads back as the problem and answer it came from".
-  pub accepted_back : (size : ℕ) → r ≡ Bytes size → judge (take size after) ≡ accepted x.problem x.claim
+  pub accepted_back : (size : ℕ) → r ≡ Ok size → judge (take size after) ≡ accepted x.problem x.claim
   -- "The length told must now be exactly that of the sheet."
-  pub told : length_told s ≡ Bytes (length (bytes_of x))
+  pub told : length_told s ≡ Ok (length (bytes_of x))
 
 -- Nothing to write or to tell the length of: refused 9.
-abbrev pub WrittenFrom : Session → Option Certificate → List ℕ → Length → List ℕ → Type 0
-WrittenFrom s none before r after = (r ≡ Refused 9) × (length_told s ≡ Refused 9)
+abbrev pub WrittenFrom : Session → Option Certificate → List ℕ → Result ℕ Refusal → List ℕ → Type 0
+WrittenFrom s none before r after = (r ≡ Err NoVerdict) × (length_told s ≡ Err NoVerdict)
 WrittenFrom s (some x) before r after = CertificateWritten s x before r after
 
 -- Of a session s that holds the book k and no verdict: what is written of the session at the end of any run of calls on it.
 abbrev pub WrittenAfter : Book → Session → Type 0
-WrittenAfter k s = (cs : List Made) (run : Run s cs) (before : List ℕ) (r : Length) (after : List ℕ) → Written (end_of s cs run) before r after
+WrittenAfter k s = (cs : List Made) (run : Run s cs) (before : List ℕ) (r : Result ℕ Refusal) (after : List ℕ) → Written (end_of s cs run) before r after
     → WrittenFrom (end_of s cs run) (last_answer k none (map call_of cs)) before r after
 
 -- For every n and every opening.

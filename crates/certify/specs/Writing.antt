@@ -1,9 +1,14 @@
--- Terms of inner contracts: the counts of the certificate of a session.
-use Rattle.std.specs.Prelude.{Bool, true, false, ◌≡◌, ℕ, ◌≤◌}
+-- Terms of inner contracts: the rows of a table, and the counts of the certificate of a session.
+use Rattle.std.specs.Prelude.{Bool, true, false, List, [], ◌++◌, ◌≡◌, ℕ, zero, suc, ◌≤◌}
 use Rattle.prover.specs.InRange.{in_range}
 use Rattle.prover.specs.declared.Session.{Session}
 use Rattle.certificate.specs.Format.{total_length}
 use Rattle.certificate.specs.declared.Contents.{Contents}
+
+-- So many rows, one after the other.
+unfoldable pub row_after_row : (ℕ → List ℕ) → ℕ → List ℕ
+row_after_row row zero = []
+row_after_row row (suc n) = row_after_row row n ++ row n
 
 -- How many worlds or steps a session holds.
 abbrev pub rows_held : Session → Bool → ℕ

@@ -5,38 +5,31 @@ ghost use Rattle.std.specs.Prelude.{◌≡◌};
 ghost use Rattle.certify.specs.Written.{length_told, Written};
 
 use prover::{Held, Session};
+use refusal::Refusal;
 
 mod rows;
 mod sheet;
 
-// A length in bytes, or the number of the refusal.
-#[derive(Clone, Copy)]
-pub enum Length {
-    Bytes(usize),
-    Refused(u8),
-}
-
 // The length of the certificate of the verdict held. Refused 5, 9.
-pub fn length_told(s: Session) -> Length
-    ensures { result ≡ length_told s }
+pub fn length_told(s: &Session) -> Result<usize, Refusal>
+    ensures { result ≡ length_told s.now }
 {
-    if prover::in_range(s) {
+    if s.in_range() {
         sheet::told(s)
     } else {
-        Length::Refused(5)
+        Err(Refusal::Range)
     }
 }
 
 // Writes the certificate of the verdict held at the start of the buffer, and gives its length. Refused 5, 9, 10: nothing is written.
-pub fn write(s: Session, buffer: &mut [u8]) -> Length
-    ensures { Written s buffer.old result buffer.new }
+pub fn write(s: &Session, buffer: &mut [u8]) -> Result<usize, Refusal>
+    ensures { Written s.now buffer.old result buffer.new }
 {
-    if !prover::in_range(s) {
-        return Length::Refused(5);
+    if !s.in_range() {
+        return Err(Refusal::Range);
     }
-    let held = s.held;
-    match held {
-        Held::Nothing => Length::Refused(9),
+    match s.held {
+        Held::Nothing => Err(Refusal::NoVerdict),
         Held::Valid(goal) => sheet::write(s, goal, false, buffer),
         Held::Refuted(goal) => sheet::write(s, goal, true, buffer),
     }

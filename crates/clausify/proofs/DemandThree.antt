@@ -13,7 +13,8 @@ use Rattle.prover.specs.Calls.{NothingHeld, VerdictIs, Asked}
 use Rattle.prover.specs.Demand.{Made, question, call_of, Run, end_of, Follows}
 use Rattle.prover.specs.Counts.{WorkRight, CountsFrom}
 use Rattle.prover.specs.declared.Session.{Session}
-use Rattle.prover.specs.declared.Answered.{Answered}
+use Rattle.prover.specs.Told.{Answered}
+use Rattle.prover.specs.Told as call
 use Rattle.prover.proofs.DemandThree.{session_follows}
 use Rattle.prover.proofs.Counts.{session_counts}
 use Rattle.ipl.specs.Formula.{Formula}
@@ -33,14 +34,14 @@ book_reached (accepted t) = text_reached t
 module _ (r : Clausified) where
   holds_book : (j : Judgement) → ClausifiedAs j r → book r.session ≡ book_of j
   holds_book (refused number place) h = h.2.clauses
-  holds_book (accepted t) h = h.2.clauses
+  holds_book (accepted t) h = h.1.clauses
 
   pub clausified_reached : (j : Judgement) → ClausifiedAs j r → Reached (book r.session)
   clausified_reached j h = subst Reached (sym (holds_book j h)) (book_reached j)
 
   pub clausified_nothing : (j : Judgement) → ClausifiedAs j r → NothingHeld none_done r.session
   clausified_nothing (refused number place) h = h.2.nothing
-  clausified_nothing (accepted t) h = h.2.nothing
+  clausified_nothing (accepted t) h = h.1.nothing
 
   text_follows : (j : Judgement) → ClausifiedAs j r → EveryRunFollows (book_of j) r.session
   text_follows j h = session_follows (book_of j) (book_reached j) r.session (holds_book j h) (clausified_nothing j h)
@@ -51,7 +52,7 @@ module _ (r : Clausified) where
 -- A run on the session of a verdict is one on the text's session whose first call is the question.
 module _ (t : Formula) (r : Settled) (s : Session) (holds : Holds t s r.goal) where
   abbrev answered : Answered
-  answered = record { verdict = r.verdict; session = r.session }
+  answered = call.answered r.verdict r.session
 
   module _ (asked : Asked s program r.goal answered) where
     from_question : (cs : List Made) (run : Run r.session cs) → Follows (text_book t) s (question program r.goal ∷ cs) (answered, asked, run)

@@ -21,8 +21,8 @@ use Rattle.prover.specs.Work.{none_done}
 use Rattle.prover.specs.Calls.{Asked, AskedAs}
 use Rattle.prover.specs.InRange.{in_range}
 use Rattle.prover.specs.declared.Session.{Session}
-use Rattle.prover.specs.declared.Verdict.{Verdict}
-use Rattle.prover.specs.declared.Answered.{Answered}
+use Rattle.prover.specs.Told.{Told, Answered, told}
+use Rattle.prover.specs.Told as call
 use Rattle.prover.proofs.Keeping.{nothing_in_range, asked_as}
 use Rattle.ipl.specs.Formula.{Formula}
 use Rattle.syntax.specs.Nodes.{letter, index_of, nodes, named}
@@ -89,7 +89,7 @@ module _ (s : List ℕ) (t : Formula) (accepted : Accepted s t) (r : Settled) (u
   few = omega (arith, accepted.size_right)
 
   abbrev answered : Answered
-  answered = record { verdict = r.verdict; session = r.session }
+  answered = call.answered r.verdict r.session
 
   reached : Reached (book u)
   reached = subst Reached (sym holds.clauses) (text_reached t)
@@ -106,18 +106,18 @@ module _ (s : List ℕ) (t : Formula) (accepted : Accepted s t) (r : Settled) (u
       ap (λ (k : Book). Countermodel k.flats k.implications r.goal m) (holds.clauses ∙ text_book_is t few)
       ∙ ap (λ (g : ℕ). Countermodel (flats_by (calls (nodes t).table)) (implications_by (calls (nodes t).table)) g m) holds.goal
 
-  says : (o : Outcome) → demand.Settled (book u) r.goal o → Ended o → AskedAs u program r.goal o answered → Says s r.verdict (worlds_of r.session.worlds)
+  says : (o : Outcome) → demand.Settled (book u) r.goal o → Ended o → AskedAs u program r.goal o answered → Says s (told r.verdict) (worlds_of r.session.worlds)
   unfolding is_valid is_refuted demand.worlds_of
   says (valid end) c e a =
-      subst (λ (v : Verdict). Says s v (worlds_of r.session.worlds)) (sym a.0.verdict)
+      subst (λ (v : Told). Says s v (worlds_of r.session.worlds)) (sym a.0.verdict)
       (t, accepted.reads, no_countermodel t few (λ m k. (c.right.valid_iff tt).0 tt m (subst (λ (X : Type 0). X) (sym (of_text m)) k)))
   says (refuted end) c e a =
-      subst (λ (v : Verdict). Says s v (worlds_of r.session.worlds)) (sym a.0.verdict)
+      subst (λ (v : Told). Says s v (worlds_of r.session.worlds)) (sym a.0.verdict)
       (t, accepted.reads, rw a.0.shows (worlds_refute t end.worlds (subst (λ (X : Type 0). X) (of_text (shown end.worlds)) (c.right.shown_one tt))))
-  says (refused number) c e a = subst (λ (v : Verdict). Says s v (worlds_of r.session.worlds)) (sym a.0) (inr (t, accepted, e))
+  says (refused number) c e a = subst (λ (v : Told). Says s v (worlds_of r.session.worlds)) (sym a.0) (inr (t, accepted, e))
   says unfinished c e a = absurd a.0
 
-  answer_says : Asked u program r.goal answered → Says s r.verdict (worlds_of r.session.worlds)
+  answer_says : Asked u program r.goal answered → Says s (told r.verdict) (worlds_of r.session.worlds)
   answer_says a =
       says (answer (book u) r.goal) (goal_settled (book u) r.goal reached goal_ok) (goal_ended (book u) r.goal reached goal_ok)
       (asked_as u is_in_range reached program r.goal answered a)
@@ -125,6 +125,6 @@ module _ (s : List ℕ) (t : Formula) (accepted : Accepted s t) (r : Settled) (u
 pub demand_two : DemandTwo
 demand_two s r = by_judgement (judge s) (judge_right s)
   where
-    by_judgement : (j : Judgement) → Right s j → SettledAs j r → Says s r.verdict (worlds_of r.session.worlds)
-    by_judgement (judgement.refused number place) x h = subst (λ (v : Verdict). Says s v (worlds_of r.session.worlds)) (sym h.0) (inl x)
+    by_judgement : (j : Judgement) → Right s j → SettledAs j r → Says s (told r.verdict) (worlds_of r.session.worlds)
+    by_judgement (judgement.refused number place) x h = subst (λ (v : Told). Says s v (worlds_of r.session.worlds)) (sym h.0) (inl x)
     by_judgement (judgement.accepted t) x h = answer_says s t x r h.0 h.1 h.2

@@ -8,21 +8,20 @@ use native.Mathlib.Omega.{arith}
 use lib.ListN.{length, get_or, take, drop, set, length-set}
 use lib.Seq.{take-suc-set, get_or-take}
 use Rattle.atoms.specs.Sets.{limit}
-use Rattle.atoms.specs.Words.{row_count}
-use Rattle.atoms.proofs.Machine.{same_rows}
-use Rattle.ipl.specs.Clause.{bot, Implication}
+use Rattle.ipl.specs.Clause.{bot, Flat, Implication}
 use Rattle.ipl.specs.Book.{Addition}
 use Rattle.ipl.specs.Lists.{tabulate}
-use Rattle.ipl.specs.Range.{flat_table, implication_table, atom_or_bot}
-use Rattle.ipl.proofs.Lists.{read_within, tabulate_length}
+use Rattle.ipl.specs.Range.{implication_table, atom_or_bot}
+use Rattle.ipl.proofs.Lists.{read_within}
 use Rattle.ipl.proofs.Range.{atom_in_range}
 use Rattle.sat.specs.Table.{clause_at, clauses}
-use Rattle.prover.specs.State.{implication_row, implications_of}
+use Rattle.prover.specs.State.{implication_row, flats_of, implications_of}
+use Rattle.prover.specs.declared.Flats.{Flats}
 use Rattle.prover.specs.declared.Implications.{Implications}
 use Rattle.syntax.specs.Nodes.{Entry, letter, falsum, compound, Earlier, named}
 use Rattle.syntax.specs.Letters.{letters_of, letter_count}
 use Rattle.syntax.specs.Parts.{held, room, Sound}
-use Rattle.syntax.specs.declared.Node.{Node}
+use Rattle.syntax.specs.declared.Part.{Part}
 use Rattle.syntax.specs.declared.Parts.{Parts}
 use Rattle.syntax.proofs.Held.{held_length, held_row}
 use Rattle.syntax.proofs.LetterCount.{entry_at, none_left, letters_left}
@@ -56,7 +55,7 @@ module _ (p : Parts) (s : Sound p) where
   table_size = omega (arith, named_length (held p), held_length p s, s.bounded)
 
   pub given_none : (atoms : List ℕ) (letters : ℕ) → length atoms ≡ room → letters ≡ letter_count (held p)
-      → Given p atoms (record { atom = 0; letter = 0; name = letters }) 0
+      → Given p atoms (record { letter = 0; name = letters }) 0
   unfolding atoms_of
   given_none atoms letters l e = record {
     inside = omega arith;
@@ -73,14 +72,14 @@ module _ (p : Parts) (s : Sound p) where
       omega (arith, g.names, letters_named (drop i (held p)), table_size),
     )
 
-    pub given_more : (d : Node) (r : Next) → i < p.count → Passed n (entry_at p i d) r → Given p (set atoms i r.atom) r (i + 1)
-    given_more d r h q = record {
+    pub given_more : (d : Part) (r : Next) (atom : ℕ) → i < p.count → Passed n (entry_at p i d) atom r → Given p (set atoms i atom) r (i + 1)
+    given_more d r atom h q = record {
       inside = omega arith;
-      size = length-set atoms i r.atom ∙ g.size;
+      size = length-set atoms i atom ∙ g.size;
       done = rw (add-one i) (ap (λ (l : List ℕ). l ++ atoms_from r.letter r.name (drop (suc i) (held p)))
-          (take-suc-set atoms i r.atom (omega (arith, g.size, s.bounded)))
-          ∙ append_assoc (take i atoms) (r.atom ∷ []) (atoms_from r.letter r.name (drop (suc i) (held p)))
-          ∙ ap (λ (l : List ℕ). take i atoms ++ l) (sym (rw (sym (add-one i)) (atoms_left p s i d h n r q))) ∙ g.done);
+          (take-suc-set atoms i atom (omega (arith, g.size, s.bounded)))
+          ∙ append_assoc (take i atoms) (atom ∷ []) (atoms_from r.letter r.name (drop (suc i) (held p)))
+          ∙ ap (λ (l : List ℕ). take i atoms ++ l) (sym (rw (sym (add-one i)) (atoms_left p s i d h n r atom q))) ∙ g.done);
       letters = omega (arith, g.letters, q.letter_more, letters_left p s i d h);
       names = omega (arith, g.names, q.name_more, letters_left p s i d h, named_left p s i d h);
     }
@@ -99,7 +98,7 @@ module _ (p : Parts) (s : Sound p) where
             ∙ g.done
 
 -- ---- clauses written
-module _ (p : Parts) (r : Names) (g : Nameable p r) (l : length r.atoms ≡ room) (i : ℕ) (d : Node) (h : i < p.count) where
+module _ (p : Parts) (r : Names) (g : Nameable p r) (l : length r.atoms ≡ room) (i : ℕ) (d : Part) (h : i < p.count) where
   inside : i < length (held p)
   inside = omega (arith, held_length p g.sound)
 
@@ -157,25 +156,21 @@ module _ (p : Parts) (r : Names) (g : Nameable p r) (l : length r.atoms ≡ room
       all : here ++ calls_left p (i + 1) ≡ calls_left p i
       all = ap (λ (cs : List Addition). cs ++ calls_left p (i + 1)) same_calls ∙ sym (calls_left_next p g.sound i d h)
 
-pub record FlatsWritten (p : Parts) (left₀ right₀ left right : List ℕ) (k i : ℕ) : Type 0 where
+pub record FlatsWritten (p : Parts) (t : Flats) (i : ℕ) : Type 0 where
   pub inside : i ≤ p.count
-  pub left_size : length left ≡ length left₀
-  pub right_size : length right ≡ length right₀
-  pub rows : clauses left right k ++ flats_by (calls_left p i) ≡ flats_by (calls (held p))
-  pub few : k ≤ clauses_of_name * i
+  pub rows : flats_of t ++ flats_by (calls_left p i) ≡ flats_by (calls (held p))
+  pub few : t.count ≤ clauses_of_name * i
 
 pub record ImplicationsWritten (p : Parts) (t : Implications) (i : ℕ) : Type 0 where
   pub inside : i ≤ p.count
   pub rows : implications_of t ++ implications_by (calls_left p i) ≡ implications_by (calls (held p))
   pub few : t.count ≤ i
 
-pub flats_none : (p : Parts) (left right : List ℕ) → FlatsWritten p left right left right 0 0
+pub flats_none : (p : Parts) (t : Flats) → t.count ≡ 0 → FlatsWritten p t 0
 unfolding clauses tabulate
-flats_none p left right = record {
+flats_none p t e = record {
   inside = omega arith;
-  left_size = refl;
-  right_size = refl;
-  rows = ap flats_by (calls_start p);
+  rows = ap₂ (λ (a b : List Flat). a ++ b) (ap (tabulate (clause_at t.left t.right)) e) (ap flats_by (calls_start p));
   few = omega arith;
 }
 
@@ -191,25 +186,16 @@ module _ (p : Parts) (r : Names) (g : Nameable p r) where
   pub implications_room : (i : ℕ) → i < p.count → (t : Implications) → ImplicationsWritten p t i → t.count < implication_table
   implications_room i h t w = omega (arith, w.few, g.sound.bounded)
 
-  module _ (l : length r.atoms ≡ room) (i : ℕ) (d : Node) (h : i < p.count) where
-    module _ (left₀ right₀ left right : List ℕ) (k : ℕ) (w : FlatsWritten p left₀ right₀ left right k i) where
-      pub flats_room : row_count left₀ ≡ flat_table → row_count right₀ ≡ flat_table → EntryRoom left right k (get_or r.atoms i 0) r.atoms (entry_at p i d)
-      flats_room rl rr = record {
-        left_rows = omega (arith, rl, w.few, g.sound.bounded, same_rows left left₀ w.left_size);
-        right_rows = omega (arith, rr, w.few, g.sound.bounded, same_rows right right₀ w.right_size);
-        few = omega (arith, w.few, g.sound.bounded);
-        parts = parts_in p r g l i d h;
-      }
+  module _ (l : length r.atoms ≡ room) (i : ℕ) (d : Part) (h : i < p.count) where
+    pub flats_room : (t : Flats) → FlatsWritten p t i → EntryRoom t (get_or r.atoms i 0) r.atoms (entry_at p i d)
+    flats_room t w = record { few = omega (arith, w.few, g.sound.bounded); parts = parts_in p r g l i d h }
 
-      pub flats_more : (left2 right2 : List ℕ) (k2 : ℕ) → Put left right k (flats_by (entry_calls r.atoms (get_or r.atoms i 0) (entry_at p i d))) left2 right2 k2
-          → FlatsWritten p left₀ right₀ left2 right2 k2 (i + 1)
-      flats_more left2 right2 k2 q = record {
-        inside = omega arith;
-        left_size = q.left_size ∙ w.left_size;
-        right_size = q.right_size ∙ w.right_size;
-        rows = rw q.rows (brought p r g l i d h flats_by flats_by_append (clauses left right k) w.rows);
-        few = omega (arith, w.few, q.more, (entry_size r.atoms (get_or r.atoms i 0) (entry_at p i d)).0);
-      }
+    pub flats_more : (t : Flats) → FlatsWritten p t i → (t2 : Flats) → Put t (flats_by (entry_calls r.atoms (get_or r.atoms i 0) (entry_at p i d))) t2 → FlatsWritten p t2 (i + 1)
+    flats_more t w t2 q = record {
+      inside = omega arith;
+      rows = rw q.rows (brought p r g l i d h flats_by flats_by_append (flats_of t) w.rows);
+      few = omega (arith, w.few, q.more, (entry_size r.atoms (get_or r.atoms i 0) (entry_at p i d)).0);
+    }
 
     pub implications_more : (t : Implications) → ImplicationsWritten p t i
         → (t2 : Implications) → Appended t (implications_by (entry_calls r.atoms (get_or r.atoms i 0) (entry_at p i d))) t2 → ImplicationsWritten p t2 (i + 1)
@@ -224,13 +210,9 @@ module _ (p : Parts) (r : Names) (g : Nameable p r) where
     none_brought {B} by none done e =
         sym (append-nil done) ∙ ap (λ (l : List B). done ++ l) (sym (ap by (calls_end p g.sound i h) ∙ none)) ∙ e
 
-    pub flats_all : (left₀ right₀ left right : List ℕ) (k : ℕ) → FlatsWritten p left₀ right₀ left right k i
-        → Put left₀ right₀ 0 (flats_by (calls (held p))) left right k
-    unfolding clauses tabulate flats_by
-    flats_all left₀ right₀ left right k w =
-        let rows = none_brought flats_by refl (clauses left right k) w.rows in
-        let count = tabulate_length (clause_at left right) k in
-        record { left_size = w.left_size; right_size = w.right_size; rows = rows; more = omega (arith, count, ap length rows) }
+    pub flats_all : (t : Flats) → FlatsWritten p t i → flats_of t ≡ flats_by (calls (held p))
+    unfolding flats_by
+    flats_all t w = none_brought flats_by refl (flats_of t) w.rows
 
     pub implications_all : (t : Implications) → ImplicationsWritten p t i → implications_of t ≡ implications_by (calls (held p))
     unfolding implications_by

@@ -15,7 +15,6 @@ use Rattle.syntax.specs.Parts.{entry_of, held, Sound}
 use Rattle.syntax.specs.declared.Part.{Part}
 use Rattle.syntax.specs.declared.Part.TheVariants.{Letter, Falsum, Compound}
 use Rattle.syntax.specs.declared.Connective.{Connective}
-use Rattle.syntax.specs.declared.Node.{Node}
 use Rattle.syntax.specs.declared.Parts.{Parts}
 use Rattle.syntax.proofs.Held.{held_length}
 use Rattle.syntax.proofs.LetterCount.{entry_at, none_left, entry_here}
@@ -32,22 +31,22 @@ named_first falsum T = omega arith
 named_first (compound c a b) T = omega arith
 
 module _ (n : Next) (p : Part) where
-  pub passed_letter : (l : ℕ) → p ≡ Letter l → Passed n (entry_of p) (record { atom = n.letter; letter = n.letter + 1; name = n.name })
+  pub passed_letter : (l : ℕ) → p ≡ Letter l → Passed n (entry_of p) n.letter (record { letter = n.letter + 1; name = n.name })
   unfolding atoms_from letters_in names_in
   passed_letter l e =
-      subst (λ (p : Part). Passed n (entry_of p) (record { atom = n.letter; letter = n.letter + 1; name = n.name })) (sym e)
+      subst (λ (p : Part). Passed n (entry_of p) n.letter (record { letter = n.letter + 1; name = n.name })) (sym e)
       (record { on = λ T. rw (add-one n.letter) refl; letter_more = refl; name_more = sym (add-zero n.name) })
 
-  pub passed_falsum : p ≡ Falsum → Passed n (entry_of p) (record { atom = bot; letter = n.letter; name = n.name })
+  pub passed_falsum : p ≡ Falsum → Passed n (entry_of p) bot n
   unfolding atoms_from letters_in names_in
   passed_falsum e =
-      subst (λ (p : Part). Passed n (entry_of p) (record { atom = bot; letter = n.letter; name = n.name })) (sym e)
+      subst (λ (p : Part). Passed n (entry_of p) bot n) (sym e)
       (record { on = λ T. refl; letter_more = sym (add-zero n.letter); name_more = sym (add-zero n.name) })
 
-  pub passed_compound : (c : Connective) (y z : ℕ) → p ≡ Compound c y z → Passed n (entry_of p) (record { atom = n.name; letter = n.letter; name = n.name + 1 })
+  pub passed_compound : (c : Connective) (y z : ℕ) → p ≡ Compound c y z → Passed n (entry_of p) n.name (record { letter = n.letter; name = n.name + 1 })
   unfolding atoms_from letters_in names_in
   passed_compound c y z e =
-      subst (λ (p : Part). Passed n (entry_of p) (record { atom = n.name; letter = n.letter; name = n.name + 1 })) (sym e)
+      subst (λ (p : Part). Passed n (entry_of p) n.name (record { letter = n.letter; name = n.name + 1 })) (sym e)
       (record { on = λ T. rw (add-one n.name) refl; letter_more = sym (add-zero n.letter); name_more = refl })
 
 -- ---- the entries left
@@ -83,7 +82,7 @@ module _ (p : Parts) (s : Sound p) where
   unfolding calls_left
   calls_end i h = rw (none_left p s i h) (calls_with_none (atoms_of (held p)) (drop i (atoms_of (held p))))
 
-  module _ (i : ℕ) (d : Node) (h : i < p.count) where
+  module _ (i : ℕ) (d : Part) (h : i < p.count) where
     atom_here : drop i (atoms_of (held p)) ≡ atom_at (held p) i ∷ drop (i + 1) (atoms_of (held p))
     unfolding atoms_of
     atom_here = rw (add-one i) (drop-cons (atoms_of (held p)) i bot (omega (arith, h, held_length p s, atoms_length (held p) 0 (letter_count (held p)))))
@@ -95,6 +94,6 @@ module _ (p : Parts) (s : Sound p) where
     unfolding calls_left calls_with
     calls_left_next = ap₂ (calls_with (atoms_of (held p))) atom_here (entry_here p s i d h)
 
-    pub atoms_left : (n r : Next) → Passed n (entry_at p i d) r
-        → atoms_from n.letter n.name (drop i (held p)) ≡ r.atom ∷ atoms_from r.letter r.name (drop (i + 1) (held p))
-    atoms_left n r g = ap (atoms_from n.letter n.name) (entry_here p s i d h) ∙ g.on (drop (i + 1) (held p))
+    pub atoms_left : (n r : Next) (atom : ℕ) → Passed n (entry_at p i d) atom r
+        → atoms_from n.letter n.name (drop i (held p)) ≡ atom ∷ atoms_from r.letter r.name (drop (i + 1) (held p))
+    atoms_left n r atom g = ap (atoms_from n.letter n.name) (entry_here p s i d h) ∙ g.on (drop (i + 1) (held p))

@@ -15,7 +15,7 @@ use Rattle.clausify.specs.Additions.{flats_by, implications_by}
 use Rattle.clausify.specs.Writing.{entry_calls, clauses_of_name}
 use Rattle.clausify.proofs.Additions.{flats_by_append, implications_by_append}
 
-clause_size : (left right : List ℕ) → (length (flats_by (clause left right)) ≤ 1) × (length (implications_by (clause left right)) ≤ 0)
+pub clause_size : (left right : List ℕ) → (length (flats_by (clause left right)) ≤ 1) × (length (implications_by (clause left right)) ≤ 0)
 unfolding clause flats_by implications_by
 clause_size left right =
     by_cond (λ (cs : List Addition). (length (flats_by cs) ≤ 1) × (length (implications_by cs) ≤ 0)) (any (eqb bot) left) [] (add_flat (record { left = set_of left; right = set_of right }) ∷ [])

@@ -1,34 +1,36 @@
 -- Laws of the clauses of one name, and of writing them row after row.
-use mathlib.Core.Bool.{Bool, true, false, not, cond, ◌||◌, or-false}
+use mathlib.Core.Bool.{Bool, true, false, cond, ◌||◌, or-false}
 use mathlib.Core.List.{List, [], ◌∷◌, ◌++◌, append_assoc, append-nil}
 use mathlib.Core.Path.{◌≡◌, refl, sym, ap, ap₂, ◌∙◌, subst}
 use mathlib.Core.Logic.{inl}
 use Prim.Native.Nat.{ℕ, ◌+◌, ◌≤◌, ◌<◌}
 use native.Mathlib.Omega.{arith}
 use lib.Dec.{T, eqb}
-use lib.ListN.{length, get_or, length-append}
+use lib.ListN.{length, get_or, drop, drop_of_length-le, length-append}
+use lib.Seq.{drop-cons}
+use native.Mathlib.Numerals.{add-one}
+use Rattle.std.specs.List.{list_any}
 use Rattle.atoms.specs.Sets.{has, limit, union}
-use Rattle.atoms.specs.Words.{num, single_or_empty, RowSet}
-use Rattle.atoms.specs.declared.AtomSet.{AtomSet}
+use Rattle.atoms.specs.Words.{row_count, single_or_empty, RowSet}
 use borrow.Author.Tests.{eqb-true, eqb-false, eq-eqb, ne_eqb}
 use Rattle.atoms.proofs.Truth.{by_cond}
-use Rattle.atoms.proofs.Machine.{limit_small, same_rows}
 use Rattle.atoms.proofs.Members.{ext, has_union, has_empty}
 use Rattle.ipl.specs.Lists.{any}
 use Rattle.ipl.specs.Clause.{bot, one, Flat, Implication, closing, closings}
-use Rattle.ipl.specs.Range.{atom_or_bot}
-use Rattle.ipl.proofs.Range.{atom_or_bot_lem, single_one}
+use Rattle.ipl.specs.Range.{flat_table, atom_or_bot}
+use Rattle.ipl.proofs.Range.{atom_or_bot_lem, atom_in_range, single_one}
 use Rattle.ipl.specs.Book.{Addition, add_flat, add_implication}
-use Rattle.ipl.proofs.Lists.{read_within}
+use Rattle.ipl.proofs.Lists.{All_at, read_within}
 use Rattle.sat.specs.Table.{clauses}
-use Rattle.prover.specs.State.{implications_of}
-use Rattle.prover.specs.Calls.{flat_of}
+use Rattle.prover.specs.State.{flats_of, implications_of}
+use Rattle.prover.specs.declared.Flats.{Flats}
 use Rattle.prover.specs.declared.Implications.{Implications}
 use Rattle.sat.proofs.Table.{clauses_more}
 use Rattle.clausify.specs.Naming.{set_of, clause, part_calls}
 use Rattle.clausify.specs.Additions.{flats_by, implications_by}
 use Rattle.clausify.proofs.Additions.{flats_by_append, implications_by_append}
-use Rattle.clausify.specs.Writing.{entry_calls, Fits, Put, Room, PartIn, PartsIn, EntryRoom, Appended}
+use Rattle.clausify.specs.Writing.{entry_calls, AtomsIn, Put, Room, PartIn, PartsIn, EntryRoom, Appended}
+use Rattle.clausify.proofs.Sizes.{clause_size}
 use Rattle.syntax.specs.Nodes.{And, Or, Implies}
 use Rattle.syntax.specs.Parts.{connective_of, entry_of}
 use Rattle.syntax.specs.declared.Part.{Part}
@@ -38,30 +40,21 @@ use Rattle.syntax.specs.declared.Connective.TheVariants as connectives
 
 -- ---- rows
 
-pub put_none : (left right : List ℕ) (k : ℕ) → Put left right k [] left right k
-put_none left right k = record { left_size = refl; right_size = refl; rows = sym (append-nil (clauses left right k)); more = omega arith }
+pub put_none : (t : Flats) → Put t [] t
+put_none t = record { rows = sym (append-nil (flats_of t)); more = omega arith }
 
-pub put_one : (left right left2 right2 : List ℕ) (k l r : ℕ) → Fits left right k → RowSet left k l left2 → RowSet right k r right2
-    → Put left right k (record { left = l; right = r } ∷ []) left2 right2 (k + 1)
-put_one left right left2 right2 k l r f a b = record {
-  left_size = a.size;
-  right_size = b.size;
-  rows = clauses_more left right left2 right2 k l r a b f.left_row f.right_row;
+pub put_one : (t r : Flats) (f : Flat) → t.count < row_count t.left → t.count < row_count t.right → RowSet t.left t.count f.left r.left
+    → RowSet t.right t.count f.right r.right → r.count ≡ t.count + 1 → Put t (f ∷ []) r
+put_one t r f h k a b e = record {
+  rows = ap (clauses r.left r.right) e ∙ clauses_more t.left t.right r.left r.right t.count f.left f.right a b h k;
   more = omega arith;
 }
 
-put_then : (F G : List Flat) (left right left2 right2 left3 right3 : List ℕ) (k k2 k3 : ℕ) → Put left right k F left2 right2 k2 → Put left2 right2 k2 G left3 right3 k3
-    → Put left right k (F ++ G) left3 right3 k3
-put_then F G left right left2 right2 left3 right3 k k2 k3 a b = record {
-  left_size = b.left_size ∙ a.left_size;
-  right_size = b.right_size ∙ a.right_size;
-  rows = b.rows ∙ ap (λ (R : List Flat). R ++ G) a.rows ∙ append_assoc (clauses left right k) F G;
+put_then : {F G : List Flat} (t u v : Flats) → Put t F u → Put u G v → Put t (F ++ G) v
+put_then {F} {G} t u v a b = record {
+  rows = b.rows ∙ ap (λ (R : List Flat). R ++ G) a.rows ∙ append_assoc (flats_of t) F G;
   more = omega (arith, a.more, b.more, length-append F G);
 }
-
-short : (b : Bool) (f : Flat) → length {A = Flat} (cond b [] (f ∷ [])) ≤ 1
-short true f = omega arith
-short false f = omega arith
 
 -- ---- sets
 union_empty : (a : ℕ) → union a 0 ≡ a
@@ -75,6 +68,35 @@ set_two : (x y : ℕ) → set_of (x ∷ y ∷ []) ≡ union (one x) (one y)
 unfolding set_of
 set_two x y = ap (union (one x)) (union_empty (one y))
 
+or_assoc : (a b c : Bool) → (a || b) || c ≡ a || (b || c)
+or_assoc true b c = refl
+or_assoc false b c = refl
+
+union_assoc : (a b c : ℕ) → union (union a b) c ≡ union a (union b c)
+union_assoc a b c = ext (union (union a b) c) (union a (union b c)) (λ i.
+    has_union (union a b) c i ∙ ap (λ (t : Bool). t || has c i) (has_union a b i) ∙ or_assoc (has a i) (has b i) (has c i)
+    ∙ sym (has_union a (union b c) i ∙ ap (λ (t : Bool). has a i || t) (has_union b c i)))
+
+-- The atoms from i on join those before.
+module _ (l : List ℕ) (h : AtomsIn l) where
+  pub joined_none : (empty : ℕ) → empty ≡ 0 → union empty (set_of l) ≡ set_of l
+  joined_none empty e = ap (λ (s : ℕ). union s (set_of l)) e ∙ ext (union 0 (set_of l)) (set_of l) (λ i. has_union 0 (set_of l) i ∙ rw (has_empty i) refl)
+
+  pub joined_more : (i : ℕ) → i < length l → (before more after : ℕ) → union before (set_of (drop i l)) ≡ set_of l → more ≡ single_or_empty (get_or l i 0)
+      → after ≡ union before more → union after (set_of (drop (i + 1) l)) ≡ set_of l
+  unfolding set_of
+  joined_more i lt before more after e em ea =
+      let x : ℕ = get_or l i 0 in
+      let here : drop i l ≡ x ∷ drop (i + 1) l = rw (add-one i) (drop-cons l i 0 lt) in
+      let atom : more ≡ one x = em ∙ single_one limit x (omega arith) (atom_or_bot_lem limit x (All_at (λ x. T (atom_or_bot limit x)) l 0 h i lt)) in
+      ap (λ (s : ℕ). union s (set_of (drop (i + 1) l))) (ea ∙ ap (union before) atom)
+      ∙ union_assoc before (one x) (set_of (drop (i + 1) l))
+      ∙ sym (ap (λ (l : List ℕ). union before (set_of l)) here) ∙ e
+
+  pub joined_all : (i : ℕ) → length l ≤ i → (before : ℕ) → union before (set_of (drop i l)) ≡ set_of l → before ≡ set_of l
+  unfolding set_of
+  joined_all i le before e = sym (ap (λ (l : List ℕ). union before (set_of l)) (drop_of_length-le l {i = i} le) ∙ union_empty before) ∙ e
+
 -- ---- tests for ⊥
 turned : (a b : ℕ) → eqb a b ≡ eqb b a
 turned a b = go (eqb a b) (eqb b a) refl refl
@@ -85,139 +107,71 @@ turned a b = go (eqb a b) (eqb b a) refl refl
     go false true e f = absurd (eqb-false a b e (sym (eqb-true b a f)))
     go false false e f = refl
 
-bot_one : (x : ℕ) → eqb x bot ≡ any (eqb bot) (x ∷ [])
+pub any_listed : (l : List ℕ) → list_any (λ x. eqb x bot) l ≡ any (eqb bot) l
 unfolding any
-bot_one x = turned x bot ∙ sym (or-false (eqb bot x))
-
-bot_two : (y z : ℕ) → eqb y bot || eqb z bot ≡ any (eqb bot) (y ∷ z ∷ [])
-unfolding any
-bot_two y z = ap₂ (λ (a b : Bool). a || b) (turned y bot) (turned z bot ∙ sym (or-false (eqb bot z)))
+any_listed [] = refl
+any_listed (x ∷ l) = ap₂ (λ (a b : Bool). a || b) (turned x bot) (any_listed l)
 
 -- ---- the clauses of a name
-flats_cond : (b : Bool) (f : Flat) → cond b [] (f ∷ []) ≡ flats_by (cond b [] (add_flat f ∷ []))
-unfolding flats_by
-flats_cond true f = refl
-flats_cond false f = refl
+pub clause_skipped : (t : Flats) (L R : List ℕ) → any (eqb bot) L ≡ true → Put t (flats_by (clause L R)) t
+unfolding clause flats_by
+clause_skipped t L R e = rw e (put_none t)
 
--- A clause as the code puts it.
-put_clause : (L R : List ℕ) (l r : AtomSet) (b : Bool) → b ≡ any (eqb bot) L → num l ≡ set_of L → num r ≡ set_of R → cond b [] (flat_of l r ∷ []) ≡ flats_by (clause L R)
-unfolding clause
-put_clause L R l r b e el er = (λ i. cond (e i) [] (record { left = el i; right = er i } ∷ [])) ∙ flats_cond (any (eqb bot) L) (record { left = set_of L; right = set_of R })
+pub clause_put : (t r : Flats) (L R : List ℕ) (f : Flat) → any (eqb bot) L ≡ false → f.left ≡ set_of L → f.right ≡ set_of R → Put t (f ∷ []) r → Put t (flats_by (clause L R)) r
+unfolding clause flats_by
+clause_put t r L R f e el er p = rw e (subst (λ (f : Flat). Put t (f ∷ []) r) (λ i. record { left = el i; right = er i }) p)
 
-three : (a b c : List Addition) (F G H : List Flat) → F ≡ flats_by a → G ≡ flats_by b → H ≡ flats_by c → F ++ G ++ H ≡ flats_by (a ++ b ++ c)
-three a b c F G H ea eb ec = (λ i. ea i ++ eb i ++ ec i) ∙ sym (flats_by_append (a ++ b) c ∙ ap (λ (R : List Flat). R ++ flats_by c) (flats_by_append a b))
+-- The closing clause is that of the implication.
+closing_put : (x y z : ℕ) → flats_by (clause (z ∷ []) (x ∷ [])) ≡ flats_by (add_implication (record { a = y; b = z; c = x }) ∷ [])
+unfolding clause flats_by closings closing any
+closing_put x y z = go (eqb z bot) (eqb bot z || false) (turned z bot ∙ sym (or-false (eqb bot z)))
+  where
+    go : (s t : Bool) → s ≡ t
+        → flats_by (cond t [] (add_flat (record { left = set_of (z ∷ []); right = set_of (x ∷ []) }) ∷ [])) ≡ cond s [] (record { left = one z; right = one x } ∷ []) ++ []
+    go true true e = refl
+    go true false e = absurd cc
+    go false true e = absurd cc
+    go false false e = λ i. record { left = set_one z i; right = set_one x i } ∷ []
 
--- Of the name x with parts y and z, whose sets the code made.
-module _ (x y z : ℕ) (whole first second both : AtomSet) (ex : num whole ≡ one x) (ey : num first ≡ one y) (ez : num second ≡ one z) (nx : eqb x bot ≡ false) where
-  single_first : num first ≡ set_of (y ∷ [])
-  single_first = ey ∙ sym (set_one y)
+module _ (t : Flats) (x y z : ℕ) where
+  -- Three clauses, one after the other.
+  pub three_put : (L R L2 R2 L3 R3 : List ℕ) (t2 t3 t4 : Flats) → Put t (flats_by (clause L R)) t2 → Put t2 (flats_by (clause L2 R2)) t3 → Put t3 (flats_by (clause L3 R3)) t4
+      → Put t (flats_by (clause L R ++ clause L2 R2 ++ clause L3 R3)) t4
+  three_put L R L2 R2 L3 R3 t2 t3 t4 a b d =
+      subst (λ (F : List Flat). Put t F t4)
+      (sym (flats_by_append (clause L R ++ clause L2 R2) (clause L3 R3) ∙ ap (λ (F : List Flat). F ++ flats_by (clause L3 R3)) (flats_by_append (clause L R) (clause L2 R2))))
+      (put_then t t3 t4 (put_then t t2 t3 a b) d)
 
-  single_second : num second ≡ set_of (z ∷ [])
-  single_second = ez ∙ sym (set_one z)
-
-  single_whole : num whole ≡ set_of (x ∷ [])
-  single_whole = ex ∙ sym (set_one x)
-
-  named_left : false ≡ any (eqb bot) (x ∷ [])
-  named_left = sym nx ∙ bot_one x
-
-  and_flats : num both ≡ union (num first) (num second) → (b : Bool) → b ≡ eqb y bot || eqb z bot
-      → (flat_of whole first ∷ []) ++ (flat_of whole second ∷ []) ++ cond b [] (flat_of both whole ∷ []) ≡ flats_by (part_calls And x y z)
+  pub and_put : (t2 t3 t4 : Flats) → Put t (flats_by (clause (x ∷ []) (y ∷ []))) t2 → Put t2 (flats_by (clause (x ∷ []) (z ∷ []))) t3
+      → Put t3 (flats_by (clause (y ∷ z ∷ []) (x ∷ []))) t4 → Put t (flats_by (part_calls And x y z)) t4
   unfolding part_calls
-  and_flats e b eb =
-      three (clause (x ∷ []) (y ∷ [])) (clause (x ∷ []) (z ∷ [])) (clause (y ∷ z ∷ []) (x ∷ [])) _ _ _
-      (put_clause (x ∷ []) (y ∷ []) whole first false named_left single_whole single_first)
-      (put_clause (x ∷ []) (z ∷ []) whole second false named_left single_whole single_second)
-      (put_clause (y ∷ z ∷ []) (x ∷ []) both whole b (eb ∙ bot_two y z) (e ∙ ap₂ union ey ez ∙ sym (set_two y z)) single_whole)
+  and_put t2 t3 t4 = three_put (x ∷ []) (y ∷ []) (x ∷ []) (z ∷ []) (y ∷ z ∷ []) (x ∷ []) t2 t3 t4
 
-  or_flats : num both ≡ union (num first) (num second)
-      → (flat_of whole both ∷ []) ++ cond (eqb y bot) [] (flat_of first whole ∷ []) ++ cond (eqb z bot) [] (flat_of second whole ∷ []) ≡ flats_by (part_calls Or x y z)
+  pub or_put : (t2 t3 t4 : Flats) → Put t (flats_by (clause (x ∷ []) (y ∷ z ∷ []))) t2 → Put t2 (flats_by (clause (y ∷ []) (x ∷ []))) t3
+      → Put t3 (flats_by (clause (z ∷ []) (x ∷ []))) t4 → Put t (flats_by (part_calls Or x y z)) t4
   unfolding part_calls
-  or_flats e =
-      three (clause (x ∷ []) (y ∷ z ∷ [])) (clause (y ∷ []) (x ∷ [])) (clause (z ∷ []) (x ∷ [])) _ _ _
-      (put_clause (x ∷ []) (y ∷ z ∷ []) whole both false named_left single_whole (e ∙ ap₂ union ey ez ∙ sym (set_two y z)))
-      (put_clause (y ∷ []) (x ∷ []) first whole (eqb y bot) (bot_one y) single_first single_whole)
-      (put_clause (z ∷ []) (x ∷ []) second whole (eqb z bot) (bot_one z) single_second single_whole)
+  or_put t2 t3 t4 = three_put (x ∷ []) (y ∷ z ∷ []) (y ∷ []) (x ∷ []) (z ∷ []) (x ∷ []) t2 t3 t4
 
-  implies_flats : (empty : AtomSet) → num empty ≡ 0 → num both ≡ union (num whole) (num first) → (b : Bool) → b ≡ eqb y bot || eqb z bot
-      → cond (not (eqb y bot)) [] (flat_of empty whole ∷ []) ++ cond (eqb y bot) [] (flat_of both second ∷ []) ++ cond b [] (flat_of second whole ∷ [])
-      ≡ flats_by (part_calls Implies x y z)
+  pub from_bot_put : (t2 : Flats) → y ≡ bot → Put t (flats_by (clause [] (x ∷ []))) t2 → Put t (flats_by (part_calls Implies x y z)) t2
   unfolding part_calls
-  implies_flats empty e0 e b eb = go (eqb y bot) refl b eb
-    where
-      none_left : false ≡ any (eqb bot) []
-      none_left = unfold any in refl
+  from_bot_put t2 e p = rw (eq-eqb y bot e) p
 
-      none_set : 0 ≡ set_of []
-      none_set = unfold set_of in refl
+  pub implies_put : (t2 t3 : Flats) → (y ≡ bot → ⊥) → Put t (flats_by (clause (x ∷ y ∷ []) (z ∷ []))) t2 → Put t2 (flats_by (clause (z ∷ []) (x ∷ []))) t3
+      → Put t (flats_by (part_calls Implies x y z)) t3
+  unfolding part_calls
+  implies_put t2 t3 e a b =
+      rw (ne_eqb y bot e, flats_by_append (clause (x ∷ y ∷ []) (z ∷ [])) (add_implication (record { a = y; b = z; c = x }) ∷ []))
+      (put_then t t2 t3 a (subst (λ (F : List Flat). Put t2 F t3) (closing_put x y z) b))
 
-      two_left : eqb y bot ≡ false → false ≡ any (eqb bot) (x ∷ y ∷ [])
-      two_left t = sym (ap₂ (λ (a b : Bool). a || b) nx t) ∙ bot_two x y
+  module _ (room : Room t x y z) where
+    pub first_in : T (atom_or_bot limit x)
+    first_in = atom_in_range limit limit x (omega arith) (inl room.name_atom)
 
-      closed : (b : Bool) → b ≡ eqb z bot → cond b [] (flat_of second whole ∷ []) ≡ flats_by (add_implication (record { a = y; b = z; c = x }) ∷ [])
-      closed b eb = unfold flats_by closings closing in ((λ i. cond (eb i) [] (record { left = ez i; right = ex i } ∷ [])) ∙ sym (append-nil (closings (record { a = y; b = z; c = x }))))
+    pub room_second : (L R : List ℕ) (t2 : Flats) → Put t (flats_by (clause L R)) t2 → t2.count < flat_table
+    room_second L R t2 p = omega (arith, room.few, p.more, (clause_size L R).0)
 
-      go : (t : Bool) → eqb y bot ≡ t → (b : Bool) → b ≡ t || eqb z bot
-          → ◌≡◌ {A = List Flat} (cond (not t) [] (flat_of empty whole ∷ []) ++ cond t [] (flat_of both second ∷ []) ++ cond b [] (flat_of second whole ∷ []))
-          (flats_by (cond t (clause [] (x ∷ [])) (clause (x ∷ y ∷ []) (z ∷ []) ++ (add_implication (record { a = y; b = z; c = x }) ∷ []))))
-      go true t b eb = rw eb (put_clause [] (x ∷ []) empty whole false none_left (e0 ∙ none_set) single_whole)
-      go false t b eb =
-          (λ i. put_clause (x ∷ y ∷ []) (z ∷ []) both second false (two_left t) (e ∙ ap₂ union ex ey ∙ sym (set_two x y)) single_second i ++ closed b eb i)
-          ∙ sym (flats_by_append (clause (x ∷ y ∷ []) (z ∷ [])) (add_implication (record { a = y; b = z; c = x }) ∷ []))
-
--- ---- the clauses written
-module _ (left right : List ℕ) (k x y z : ℕ) (room : Room left right k x y z) where
-  pub fits_second : (b : Bool) (f : Flat) (left2 right2 : List ℕ) (k2 : ℕ) → Put left right k (cond b [] (f ∷ [])) left2 right2 k2 → Fits left2 right2 k2
-  fits_second b f left2 right2 k2 p = record {
-    left_row = omega (arith, room.left_rows, p.more, short b f, same_rows left2 left p.left_size);
-    right_row = omega (arith, room.right_rows, p.more, short b f, same_rows right2 right p.right_size);
-    few = omega (arith, room.few, p.more, short b f);
-  }
-
-  pub fits_third : (b d : Bool) (f g : Flat) (left2 right2 left3 right3 : List ℕ) (k2 k3 : ℕ) → Put left right k (cond b [] (f ∷ [])) left2 right2 k2
-      → Put left2 right2 k2 (cond d [] (g ∷ [])) left3 right3 k3 → Fits left3 right3 k3
-  fits_third b d f g left2 right2 left3 right3 k2 k3 p q = record {
-    left_row = omega (arith, room.left_rows, p.more, q.more, short b f, short d g, same_rows left3 left (q.left_size ∙ p.left_size));
-    right_row = omega (arith, room.right_rows, p.more, q.more, short b f, short d g, same_rows right3 right (q.right_size ∙ p.right_size));
-    few = omega (arith, room.few, p.more, q.more, short b f, short d g);
-  }
-
-  module _ (whole first second both : AtomSet) (ew : num whole ≡ single_or_empty x) (ef : num first ≡ single_or_empty y) (es : num second ≡ single_or_empty z) where
-    whole_is : num whole ≡ one x
-    whole_is = ew ∙ single_one limit x (omega arith) (inl room.name_atom)
-
-    first_is : num first ≡ one y
-    first_is = ef ∙ single_one limit y (omega arith) (atom_or_bot_lem limit y room.left_atom)
-
-    second_is : num second ≡ one z
-    second_is = es ∙ single_one limit z (omega arith) (atom_or_bot_lem limit z room.right_atom)
-
-    name_is : eqb x bot ≡ false
-    name_is = ne_eqb x bot (λ e. omega (arith, room.name_atom, limit_small))
-
-    three_put : (E F G H : List Flat) (left2 right2 left3 right3 left4 right4 : List ℕ) (k2 k3 k4 : ℕ) → F ++ G ++ H ≡ E
-        → Put left right k F left2 right2 k2 → Put left2 right2 k2 G left3 right3 k3 → Put left3 right3 k3 H left4 right4 k4 → Put left right k E left4 right4 k4
-    three_put E F G H left2 right2 left3 right3 left4 right4 k2 k3 k4 e a b d =
-        subst (λ (E : List Flat). Put left right k E left4 right4 k4) e
-        (put_then (F ++ G) H left right left3 right3 left4 right4 k k3 k4 (put_then F G left right left2 right2 left3 right3 k k2 k3 a b) d)
-
-    module _ (left2 right2 left3 right3 left4 right4 : List ℕ) (k2 k3 k4 : ℕ) where
-      pub and_put : num both ≡ union (num first) (num second) → (b : Bool) → b ≡ eqb y bot || eqb z bot
-          → Put left right k (flat_of whole first ∷ []) left2 right2 k2 → Put left2 right2 k2 (flat_of whole second ∷ []) left3 right3 k3
-          → Put left3 right3 k3 (cond b [] (flat_of both whole ∷ [])) left4 right4 k4 → Put left right k (flats_by (part_calls And x y z)) left4 right4 k4
-      and_put e b eb = three_put _ _ _ _ left2 right2 left3 right3 left4 right4 k2 k3 k4 (and_flats x y z whole first second both whole_is first_is second_is name_is e b eb)
-
-      pub or_put : num both ≡ union (num first) (num second) → Put left right k (flat_of whole both ∷ []) left2 right2 k2
-          → Put left2 right2 k2 (cond (eqb y bot) [] (flat_of first whole ∷ [])) left3 right3 k3
-          → Put left3 right3 k3 (cond (eqb z bot) [] (flat_of second whole ∷ [])) left4 right4 k4 → Put left right k (flats_by (part_calls Or x y z)) left4 right4 k4
-      or_put e = three_put _ _ _ _ left2 right2 left3 right3 left4 right4 k2 k3 k4 (or_flats x y z whole first second both whole_is first_is second_is name_is e)
-
-      pub implies_put : (empty : AtomSet) → num empty ≡ 0 → num both ≡ union (num whole) (num first) → (b : Bool) → b ≡ eqb y bot || eqb z bot
-          → Put left right k (cond (not (eqb y bot)) [] (flat_of empty whole ∷ [])) left2 right2 k2
-          → Put left2 right2 k2 (cond (eqb y bot) [] (flat_of both second ∷ [])) left3 right3 k3
-          → Put left3 right3 k3 (cond b [] (flat_of second whole ∷ [])) left4 right4 k4 → Put left right k (flats_by (part_calls Implies x y z)) left4 right4 k4
-      implies_put empty e0 e b eb = three_put _ _ _ _ left2 right2 left3 right3 left4 right4 k2 k3 k4
-          (implies_flats x y z whole first second both whole_is first_is second_is name_is empty e0 e b eb)
+    pub room_third : (L R L2 R2 : List ℕ) (t2 t3 : Flats) → Put t (flats_by (clause L R)) t2 → Put t2 (flats_by (clause L2 R2)) t3 → t3.count < flat_table
+    room_third L R L2 R2 t2 t3 p q = omega (arith, room.few, p.more, q.more, (clause_size L R).0, (clause_size L2 R2).0)
 
 -- ---- the clauses of an entry
 module _ (A : List ℕ) (x : ℕ) (p : Part) where
@@ -237,24 +191,22 @@ module _ (A : List ℕ) (x : ℕ) (p : Part) where
         ap₂ (part_calls (connective_of c) x) (read_within A y 0 bot q.1.0) (read_within A z 0 bot q.2.0)
         ∙ sym (ap (λ (p : Part). entry_calls A x (entry_of p)) e)
 
-    pub compound_room : (left right : List ℕ) (k : ℕ) → EntryRoom left right k x A (entry_of p) → Room left right k x (get_or A y 0) (get_or A z 0)
-    compound_room left right k h =
+    pub compound_room : (t : Flats) → EntryRoom t x A (entry_of p) → Room t x (get_or A y 0) (get_or A z 0)
+    compound_room t h =
         let q = compound_parts h.parts in
         record {
-          left_rows = h.left_rows;
-          right_rows = h.right_rows;
           few = h.few;
           name_atom = q.0;
           left_atom = subst (λ (a : ℕ). T (atom_or_bot limit a)) (read_within A y bot 0 q.1.0) q.1.1;
           right_atom = subst (λ (a : ℕ). T (atom_or_bot limit a)) (read_within A z bot 0 q.2.0) q.2.1;
         }
 
-pub put_calls : (a b : List Addition) (left right left2 right2 : List ℕ) (k k2 : ℕ) → a ≡ b → Put left right k (flats_by a) left2 right2 k2 → Put left right k (flats_by b) left2 right2 k2
-put_calls a b left right left2 right2 k k2 e = subst (λ (a : List Addition). Put left right k (flats_by a) left2 right2 k2) e
+pub put_calls : {t r : Flats} (a b : List Addition) → a ≡ b → Put t (flats_by a) r → Put t (flats_by b) r
+put_calls {t} {r} a b e = subst (λ (a : List Addition). Put t (flats_by a) r) e
 
-pub put_as : (c d : Connective) (x y z : ℕ) (left right left2 right2 : List ℕ) (k k2 : ℕ) → c ≡ d → Put left right k (flats_by (part_calls (connective_of d) x y z)) left2 right2 k2
-    → Put left right k (flats_by (part_calls (connective_of c) x y z)) left2 right2 k2
-put_as c d x y z left right left2 right2 k k2 e = put_calls _ _ left right left2 right2 k k2 (ap (λ (c : Connective). part_calls (connective_of c) x y z) (sym e))
+pub put_as : {t r : Flats} (c d : Connective) (x y z : ℕ) → c ≡ d → Put t (flats_by (part_calls (connective_of d) x y z)) r
+    → Put t (flats_by (part_calls (connective_of c) x y z)) r
+put_as c d x y z e = put_calls _ _ (ap (λ (c : Connective). part_calls (connective_of c) x y z) (sym e))
 
 -- ---- implications
 no_implication_lem : (L R : List ℕ) → implications_by (clause L R) ≡ []

@@ -11,8 +11,7 @@ use Rattle.prover.specs.Work.{works_of}
 use Rattle.prover.specs.Demand.{Made, call_of, Run, end_of, Follows}
 use Rattle.prover.specs.Counts.{WorkRight, CountsFrom}
 use Rattle.prover.specs.declared.Session.{Session}
-use Rattle.prover.specs.declared.Verdict.{Verdict}
-use Rattle.prover.specs.declared.Verdict.TheVariants.{Valid, Refuted, Refused}
+use Rattle.prover.specs.Told.{Told, Valid, Refuted, Refused, told, answered}
 use Rattle.ipl.specs.Formula.{Formula}
 use Rattle.syntax.specs.Grammar.{Reads}
 use Rattle.syntax.specs.Nodes.{Entry, letter, index_of, nodes}
@@ -34,14 +33,14 @@ pub record Refutes (f : Formula) (W : List ℕ) : Type 0 where
 
 -- Valid: the root of every finite Kripke model forces the formula. Refuted: the worlds shown refute it. Refused: a refusal of
 -- the text, or the search met 11 or 12.
-abbrev pub Says : List ℕ → Verdict → List ℕ → Type 0
+abbrev pub Says : List ℕ → Told → List ℕ → Type 0
 Says s (Valid steps) W = (f : Formula) × Reads s f × ((m : Model) → IsModel m → Forces m m.root f)
 Says s (Refuted worlds) W = (f : Formula) × Reads s f × Refutes f W
 Says s (Refused number place) W = text.Refused s number place ⊎ ((f : Formula) × text.Accepted s f × ((number ≡ 11) ⊎ (number ≡ 12)))
 
 -- For every text, and every answer as the contract states it.
 abbrev pub DemandTwo : Type 0
-DemandTwo = (s : List ℕ) (r : Settled) → SettledAs (judge s) r → Says s r.verdict (worlds_of r.session.worlds)
+DemandTwo = (s : List ℕ) (r : Settled) → SettledAs (judge s) r → Says s (told r.verdict) (worlds_of r.session.worlds)
 
 -- "A text's session holds what an opening with its n and the additions of its clauses .. would bring": the book of a text; a refused
 -- one has that of the empty session of one atom.
@@ -57,7 +56,7 @@ EveryRunFollows k s = (cs : List Made) (run : Run s cs) → Follows k s cs run
 abbrev pub SettledFollows : Judgement → Settled → Type 0
 SettledFollows (refused number place) r = EveryRunFollows (B.opened 1) r.session
 SettledFollows (accepted f) r =
-    VerdictIs (goal_of f) (answer (text_book f) (goal_of f)) (record { verdict = r.verdict; session = r.session })
+    VerdictIs (goal_of f) (answer (text_book f) (goal_of f)) (answered r.verdict r.session)
     × EveryRunFollows (next (text_book f) (B.question program (goal_of f))) r.session
 
 -- The goals decided since are the text's own, which the program put, and those of the run.

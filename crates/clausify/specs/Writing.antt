@@ -1,12 +1,12 @@
 -- The terms in which the functions that name parts and write clauses speak to each other.
 use Rattle.std.specs.Prelude.{List, [], ◌∷◌, ◌++◌, ◌≡◌, ℕ, ◌+◌, ◌≤◌, ◌<◌, T, length, get_or}
 use Rattle.atoms.specs.Sets.{limit}
-use Rattle.atoms.specs.Words.{row_count}
+use Rattle.ipl.specs.Lists.{All}
 use Rattle.ipl.specs.Clause.{bot, Flat, Implication}
 use Rattle.ipl.specs.Range.{flat_table, atom_or_bot}
 use Rattle.ipl.specs.Book.{Addition}
-use Rattle.sat.specs.Table.{clauses}
-use Rattle.prover.specs.State.{implications_of}
+use Rattle.prover.specs.State.{flats_of, implications_of}
+use Rattle.prover.specs.declared.Flats.{Flats}
 use Rattle.prover.specs.declared.Implications.{Implications}
 use Rattle.syntax.specs.Nodes.{Entry, letter, falsum, compound, WellOrdered, named}
 use Rattle.syntax.specs.Letters.{letters_in}
@@ -27,9 +27,9 @@ entry_calls A x (letter l) = []
 entry_calls A x falsum = []
 entry_calls A x (compound c a b) = part_calls c x (get_or A a bot) (get_or A b bot)
 
--- The entry e was passed: it got the atom, and the rest goes on from the next letter and name.
-pub record Passed (n : Next) (e : Entry) (r : Next) : Type 0 where
-  pub on : (T : List Entry) → atoms_from n.letter n.name (e ∷ T) ≡ r.atom ∷ atoms_from r.letter r.name T
+-- The entry e was passed and has this atom, and the rest goes on from the next letter and name.
+pub record Passed (n : Next) (e : Entry) (atom : ℕ) (r : Next) : Type 0 where
+  pub on : (T : List Entry) → atoms_from n.letter n.name (e ∷ T) ≡ atom ∷ atoms_from r.letter r.name T
   pub letter_more : r.letter ≡ n.letter + letters_in e
   pub name_more : r.name ≡ n.name + names_in e
 
@@ -45,28 +45,22 @@ pub record Nameable (p : Parts) (r : Names) : Type 0 where
   pub few : named (held p) ≤ limit
   pub names : NamesOf (held p) r
 
--- Room for one clause more.
-pub record Fits (left right : List ℕ) (count : ℕ) : Type 0 where
-  pub left_row : count < row_count left
-  pub right_row : count < row_count right
-  pub few : count < flat_table
+-- Each is an atom that there is room for, or ⊥.
+abbrev pub AtomsIn : List ℕ → Type 0
+AtomsIn l = All (λ x. T (atom_or_bot limit x)) l
 
--- The clauses F written after the first `count`.
-pub record Put (left right : List ℕ) (count : ℕ) (F : List Flat) (left2 right2 : List ℕ) (count2 : ℕ) : Type 0 where
-  pub left_size : length left2 ≡ length left
-  pub right_size : length right2 ≡ length right
-  pub rows : clauses left2 right2 count2 ≡ clauses left right count ++ F
-  pub more : count2 ≡ count + length F
+-- The clauses F after those of t.
+pub record Put (t : Flats) (F : List Flat) (r : Flats) : Type 0 where
+  pub rows : flats_of r ≡ flats_of t ++ F
+  pub more : r.count ≡ t.count + length F
 
 -- A name has at most three flat clauses.
 abbrev pub clauses_of_name : ℕ
 clauses_of_name = 3
 
 -- Room for the clauses of a name x with parts y and z.
-pub record Room (left right : List ℕ) (count x y z : ℕ) : Type 0 where
-  pub left_rows : count + clauses_of_name ≤ row_count left
-  pub right_rows : count + clauses_of_name ≤ row_count right
-  pub few : count + clauses_of_name ≤ flat_table
+pub record Room (t : Flats) (x y z : ℕ) : Type 0 where
+  pub few : t.count + clauses_of_name ≤ flat_table
   pub name_atom : x < limit
   pub left_atom : T (atom_or_bot limit y)
   pub right_atom : T (atom_or_bot limit z)
@@ -82,10 +76,8 @@ PartsIn A x falsum = Unit {0}
 PartsIn A x (compound c a b) = (x < limit) × PartIn A a × PartIn A b
 
 -- Room for the clauses of an entry whose atom is x.
-pub record EntryRoom (left right : List ℕ) (count x : ℕ) (A : List ℕ) (e : Entry) : Type 0 where
-  pub left_rows : count + clauses_of_name ≤ row_count left
-  pub right_rows : count + clauses_of_name ≤ row_count right
-  pub few : count + clauses_of_name ≤ flat_table
+pub record EntryRoom (t : Flats) (x : ℕ) (A : List ℕ) (e : Entry) : Type 0 where
+  pub few : t.count + clauses_of_name ≤ flat_table
   pub parts : PartsIn A x e
 
 -- The implications X after those of t.

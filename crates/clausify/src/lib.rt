@@ -1,7 +1,7 @@
 // From a text to its clauses and goal, and to its verdict.
 #![tactic(auto)]
 
-ghost use Rattle.std.specs.Prelude.{◌≡◌, max};
+ghost use Rattle.std.specs.Prelude.{◌≡◌};
 ghost use Rattle.prover.specs.State.{book};
 ghost use Rattle.prover.specs.Calls.{NothingHeld};
 ghost use Rattle.prover.specs.Work.{none_done};
@@ -12,18 +12,18 @@ ghost use Rattle.clausify.specs.Calls.{ClausifiedAs, SettledAs};
 ghost use Rattle.clausify.specs.Writing.{Nameable};
 
 use naming::Names;
-use prover::{Flats, Session, Verdict};
-use syntax::{Outcome, Parts};
+use prover::{Session, Verdict};
+use refusal::Refusal;
+use syntax::Parts;
 
 mod flat_clauses;
 mod implication_clauses;
 mod naming;
 
-// A text's session and goal; or the number of a refusal and its place, with the empty session of one atom and the goal ⊥.
+// Whether a text was read, its session and its goal; of one that was not, the empty session of one atom and the goal ⊥.
 #[derive(Clone, Copy)]
 pub struct Clausified {
-    pub refusal: u8,
-    pub place: usize,
+    pub read: Result<(), Refusal>,
     pub session: Session,
     pub goal: u8,
 }
@@ -31,43 +31,21 @@ pub struct Clausified {
 // The verdict on a text, the session that it was asked of, and the goal.
 #[derive(Clone, Copy)]
 pub struct Settled {
-    pub verdict: Verdict,
+    pub verdict: Result<Verdict, Refusal>,
     pub session: Session,
     pub goal: u8,
 }
 
-// At least one atom.
-fn atom_count(names: u8) -> u8
-    ensures { result ≡ max 1 names }
+// The session of a formula's clauses: it has at least one atom.
+fn session_of(parts: &Parts, names: &Names) -> Session
+    requires { Nameable parts.now names.now }
+    ensures { (book result ≡ table_book (held parts.now)) × NothingHeld none_done result }
 {
-    if names == 0 { 1 } else { names }
-}
-
-// The session of a formula's clauses.
-fn session_of(parts: Parts, names: Names) -> Session
-    requires { Nameable parts names }
-    ensures { (book result ≡ table_book (held parts)) × NothingHeld none_done result }
-{
-    let fresh = prover::open(atom_count(names.count));
-    let s = fresh.session;
-    let mut left = [0; ipl::FLATS * atoms::WORDS];
-    let mut right = [0; ipl::FLATS * atoms::WORDS];
-    let count = flat_clauses::write(&mut left, &mut right, parts, names);
-    let flats = Flats { count, left, right };
-    let steps = s.steps;
-    let worlds = s.worlds;
-    let held = s.held;
-    let marks = s.marks;
-    let authors = s.authors;
     Session {
-        n: s.n,
-        flats,
+        n: names.count.max(1),
+        flats: flat_clauses::flats_of(parts, names),
         implications: implication_clauses::implications_of(parts, names),
-        steps,
-        worlds,
-        held,
-        marks,
-        authors,
+        ..Session::new()
     }
 }
 
@@ -75,27 +53,18 @@ fn session_of(parts: Parts, names: Names) -> Session
 pub fn clausify(text: &[u8]) -> Clausified
     ensures { ClausifiedAs (judge text.now) result }
 {
-    let reading = syntax::read(text);
-    let parts = reading.parts;
-    let outcome = reading.outcome;
-    match outcome {
-        Outcome::Refusal(refusal, place) => {
-            let none = prover::open(1);
-            let session = none.session;
+    match syntax::read(text) {
+        Err(refusal) => Clausified {
+            read: Err(refusal),
+            session: Session::new(),
+            goal: ipl::BOTTOM,
+        },
+        Ok(reading) => {
+            let names = naming::names_of(&reading.parts, reading.letters);
             Clausified {
-                refusal,
-                place,
-                session,
-                goal: ipl::BOTTOM,
-            }
-        }
-        Outcome::Formula(root) => {
-            let names = naming::names_of(parts, reading.letters);
-            Clausified {
-                refusal: 0,
-                place: 0,
-                session: session_of(parts, names),
-                goal: names.atoms[root as usize],
+                read: Ok(()),
+                session: session_of(&reading.parts, &names),
+                goal: names.atoms[usize::from(reading.root)],
             }
         }
     }
@@ -105,23 +74,14 @@ pub fn clausify(text: &[u8]) -> Clausified
 pub fn settle(text: &[u8]) -> Settled
     ensures { SettledAs (judge text.now) result }
 {
-    let problem = clausify(text);
-    let goal = problem.goal;
-    if problem.refusal == 0 {
-        let answered = prover::ask(problem.session, ipl::PROGRAM, goal);
-        let verdict = answered.verdict;
-        let session = answered.session;
-        Settled {
-            verdict,
-            session,
-            goal,
-        }
-    } else {
-        let session = problem.session;
-        Settled {
-            verdict: Verdict::Refused(problem.refusal, problem.place),
-            session,
-            goal,
-        }
+    let mut problem = clausify(text);
+    let verdict = match problem.read {
+        Err(refusal) => Err(refusal),
+        Ok(()) => problem.session.ask(ipl::PROGRAM, problem.goal),
+    };
+    Settled {
+        verdict,
+        session: problem.session,
+        goal: problem.goal,
     }
 }

@@ -8,62 +8,53 @@ ghost use Rattle.clausify.specs.Writing.{Passed, NamesOf};
 use syntax::{Part, Parts};
 
 // The atom of each part, and how many atoms there are.
-#[derive(Clone, Copy)]
+#[derive(Drop)]
 pub struct Names {
     pub atoms: [u8; syntax::PARTS],
     pub count: u8,
 }
 
-// The atom of a part that was passed, the next letter's atom, and the next name.
-#[derive(Clone, Copy)]
+// The next letter's atom, and the next name.
+#[derive(Drop)]
 struct Next {
-    atom: u8,
     letter: u8,
     name: u8,
 }
 
-fn pass(next: Next, part: Part) -> Next
-    requires { (next.letter < bot) × (next.name < bot) }
-    ensures { Passed next (entry_of part) result }
-{
-    match part {
-        Part::Letter(_) => Next {
-            atom: next.letter,
-            letter: next.letter + 1,
-            name: next.name,
-        },
-        Part::Falsum => Next {
-            atom: ipl::BOTTOM,
-            letter: next.letter,
-            name: next.name,
-        },
-        Part::Compound(_, _, _) => Next {
-            atom: next.name,
-            letter: next.letter,
-            name: next.name + 1,
-        },
+impl Next {
+    // Passes a part, which has this atom.
+    fn pass(&mut self, part: Part) -> u8
+        requires { (self.old.letter < bot) × (self.old.name < bot) }
+        ensures { Passed self.old (entry_of part) result self.new }
+    {
+        match part {
+            Part::Letter(_) => {
+                let atom = self.letter;
+                self.letter += 1;
+                atom
+            }
+            Part::Falsum => ipl::BOTTOM,
+            Part::Compound(_, _, _) => {
+                let atom = self.name;
+                self.name += 1;
+                atom
+            }
+        }
     }
 }
 
 // The reader tells the letters.
-pub fn names_of(parts: Parts, letters: u8) -> Names
-    requires { Sound parts × (letters ≡ letter_count (held parts)) }
-    ensures { NamesOf (held parts) result }
+pub fn names_of(parts: &Parts, letters: u8) -> Names
+    requires { Sound parts.now × (letters ≡ letter_count (held parts.now)) }
+    ensures { NamesOf (held parts.now) result }
 {
     let mut atoms = [ipl::BOTTOM; syntax::PARTS];
     let mut next = Next {
-        atom: 0,
         letter: 0,
         name: letters,
     };
-    let mut i: u8 = 0;
-    while i < parts.count {
-        let at = i as usize;
-        let node = parts.nodes[at];
-        let part = node.part;
-        next = pass(next, part);
-        atoms[at] = next.atom;
-        i += 1;
+    for i in 0..usize::from(parts.count) {
+        atoms[i] = next.pass(parts.nodes[i]);
     }
     Names {
         atoms,

@@ -10,6 +10,8 @@ use lib.Dec.{T, eqb, ltb}
 use lib.ListN.{length, length-map}
 use borrow.Author.Tests.{ltb-true, ltb-false}
 use Rattle.atoms.proofs.Truth.{true_T, false_T, by_cond}
+use Rattle.std.specs.Prelude.{Result, Ok, Err}
+use Rattle.refusal.specs.declared.Refusal.{Refusal}
 use Rattle.ipl.specs.First.{first_failing, FirstFailing}
 use Rattle.ipl.specs.Lists.{All}
 use Rattle.ipl.specs.Formula.{Formula}
@@ -22,10 +24,9 @@ use Rattle.syntax.proofs.Unique.{unique}
 use Rattle.fork.specs.Fork.{fork, whole, set_count}
 use Rattle.fork.specs.Screen as screen
 use Rattle.fork.specs.Screen.{most_letters, letters, assignment, set_of, gives_whole, Screening, falls_at, screened, screening}
-use Rattle.fork.specs.Answer.{sets_of, ScreenedAs, HoldsOnFork, on_letters, IsAssignment, FirstRefuting, Screenable, Says, ScreenRight}
-use Rattle.fork.specs.declared.Outcome.{Outcome}
-use Rattle.fork.specs.declared.Outcome.TheVariants.{Refused, Passes, Falls}
+use Rattle.fork.specs.Answer.{told, ScreenedAs, HoldsOnFork, on_letters, IsAssignment, FirstRefuting, Screenable, Says, ScreenRight}
 use Rattle.fork.specs.declared.Screened.{Screened}
+use Rattle.fork.specs.declared.Screened.TheVariants.{Passes, Falls}
 use Rattle.fork.proofs.Valuation.{root_forces, valuation_model, sets_from, from_set, from_same}
 use Rattle.fork.proofs.Digits.{assignment_length, assignment_sets, number_of, number_below_lem, assignment_number, number_back, before_less}
 use Rattle.fork.proofs.Dependence.{letters_decide}
@@ -97,40 +98,44 @@ module _ (s : List ℕ) where
   one_formula : (f g : Formula) → text.Accepted s f → text.Accepted s g → f ≡ g
   one_formula f g a b = unique s f g a.reads b.reads
 
-  exactly : (o : Outcome) (sets : List ℕ) → Says s o sets → (f : Formula) → Screenable s f → (o ≡ Passes) ↔ HoldsOnFork f
-  exactly (Refused number place) sets (inl x) f c = absurd (not_both number place f x c.accepted)
-  exactly (Refused number place) sets (inr x) f c =
+  exactly : (o : Screening) → Says s o → (f : Formula) → Screenable s f → (o ≡ screen.passes) ↔ HoldsOnFork f
+  exactly (screen.refused number place) (inl x) f c = absurd (not_both number place f x c.accepted)
+  exactly (screen.refused number place) (inr x) f c =
       absurd (omega (arith, x.many, c.few, ap (λ (g : Formula). length (letters g)) (one_formula f x.formula c.accepted x.accepted)))
-  exactly Passes sets (g, d, h) f c = (λ e. subst HoldsOnFork (one_formula g f d.accepted c.accepted) h, λ e. refl)
-  exactly Falls sets (g, d, h) f c = (
-    λ e. let z : ◌≡◌ {A = ℕ} 0 1 = cc in absurd (omega arith),
+  exactly screen.passes (g, d, h) f c = (λ e. subst HoldsOnFork (one_formula g f d.accepted c.accepted) h, λ e. refl)
+  exactly (screen.falls sets) (g, d, h) f c = (
+    λ e. cc,
     λ e. absurd (h.unforced (subst HoldsOnFork (one_formula f g c.accepted d.accepted) e (on_letters g sets) h.model)),
   )
 
-  module _ (r : Screened) where
-    abbrev Said : Type 0
-    Said = Says s r.outcome (sets_of r)
+  screened_says : (f : Formula) → Screenable s f → (o : Option ℕ) → FirstSaid (test f) (set_count ^ k f) o → Says s (falls_at (k f) o)
+  screened_says f c none h = (f, c, holds_on_fork f h)
+  screened_says f c (some n) h = (f, c, first_refuting f n h)
 
-    told : (o : Outcome) (sets : List ℕ) → (r.outcome ≡ o) × (sets_of r ≡ sets) → Says s o sets → Said
-    told o sets e h = rw (e.0, e.1) h
+  by_judgement : (j : Judgement) → Right s j → Says s (screening j)
+  unfolding screening screened
+  by_judgement (refused number place) x = inl x
+  by_judgement (accepted f) x =
+      by_cond (Says s) (ltb most_letters (k f)) (screen.refused 22 0) (screened f)
+      (λ t. inr (record { formula = f; accepted = x; many = ltb-true most_letters (k f) t; number_is = refl; place_is = refl }))
+      (λ t.
+      screened_says f (record { accepted = x; few = omega (arith, ltb-false most_letters (k f) t) })
+      (first_failing (test f) (set_count ^ k f)) (first_said (test f) (set_count ^ k f)))
 
-    screened_says : (f : Formula) → Screenable s f → (o : Option ℕ) → FirstSaid (test f) (set_count ^ k f) o → ScreenedAs (falls_at (k f) o) r → Said
-    screened_says f c none h a = told Passes [] a (f, c, holds_on_fork f h)
-    screened_says f c (some n) h a = told Falls (assignment (k f) n) a (f, c, first_refuting f n h)
+  -- What is told of a text is so.
+  pub screening_says : Says s (screening (judge s))
+  screening_says = by_judgement (judge s) (judge_right s)
 
-    by_judgement : (j : Judgement) → Right s j → ScreenedAs (screening j) r → Said
-    unfolding screening screened
-    by_judgement (refused number place) x a = told (Refused number place) [] a (inl x)
-    by_judgement (accepted f) x a =
-        by_cond (λ (o : Screening). ScreenedAs o r → Said) (ltb most_letters (k f)) (screen.refused 22 0) (screened f)
-        (λ t b. told (Refused 22 0) [] b (inr (record { formula = f; accepted = x; many = ltb-true most_letters (k f) t; number_is = refl; place_is = refl })))
-        (λ t.
-        screened_says f (record { accepted = x; few = omega (arith, ltb-false most_letters (k f) t) })
-        (first_failing (test f) (set_count ^ k f)) (first_said (test f) (set_count ^ k f)))
-        a
+told_passes : (r : Result Screened Refusal) → told r ≡ screen.passes → r ≡ Ok Passes
+told_passes (Err e) q = cc
+told_passes (Ok Passes) q = refl
+told_passes (Ok (Falls sets)) q = cc
 
 -- For every text, and every answer as the contract states it.
-pub screen_right : (s : List ℕ) (r : Screened) → ScreenedAs (screening (judge s)) r → ScreenRight s r
+pub screen_right : (s : List ℕ) (r : Result Screened Refusal) → ScreenedAs (screening (judge s)) r → ScreenRight s r
 screen_right s r a =
-    let told = by_judgement s r (judge s) (judge_right s) a in
-    record { says = told; passes_exactly = exactly s r.outcome (sets_of r) told }
+    let says = subst (Says s) (sym a) (screening_says s) in
+    record {
+      says = says;
+      passes_exactly = λ f c. let x = exactly s (told r) says f c in (λ e. x.0 (ap told e), λ h. told_passes r (x.1 h));
+    }

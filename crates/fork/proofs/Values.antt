@@ -7,11 +7,12 @@ use native.Mathlib.Omega.{arith}
 use lib.Dec.{eqb}
 use lib.ListN.{length, get_or, take, drop, replicate, length-replicate}
 use borrow.Author.Tests.{eq-eqb, ne_eqb}
+use Rattle.std.specs.Prelude.{Option, Some, None}
 use Rattle.ipl.specs.Formula.{Formula}
 use Rattle.syntax.specs.Nodes.{Connective, And, Or, Implies, Entry, letter, falsum, compound, same, index_of, connected, entry_formula, formulas_after, formula_at, Earlier, Once}
 use Rattle.syntax.specs.Letters.{letters_of, letter_count, letters_in}
 use Rattle.syntax.specs.Parts.{held, room}
-use Rattle.syntax.specs.declared.Node.{Node}
+use Rattle.syntax.specs.declared.Part.{Part}
 use Rattle.syntax.specs.declared.Parts.{Parts}
 use Rattle.syntax.proofs.Held.{held_length, held_row}
 use Rattle.syntax.proofs.LetterCount.{letters_first, entry_at, letters_left}
@@ -78,7 +79,7 @@ module _ (p : Parts) (letters : ℕ) (t : Tabled p letters) (n : ℕ) where
     pub filled_all : p.count ≤ i → Filled T n C
     filled_all h = record { good = f.good; values = λ m j l k. f.values m j (omega (arith, held_length p t.sound)) k }
 
-    module _ (d : Node) (h : i < p.count) where
+    module _ (d : Part) (h : i < p.count) where
       inside_held : i < length T
       inside_held = omega (arith, held_length p t.sound)
 
@@ -136,9 +137,10 @@ zeros (suc n) (suc k) = zeros n k
 pub no_cells : Cells (replicate (cells room) 0)
 no_cells = record { sized = length-replicate {A = ℕ} (cells room) 0; sets = λ k. omega (arith, zeros (cells room) k) }
 
-pub first_in : (T : List Entry) (n : ℕ) (C : List ℕ) → Filled T n C → (root : ℕ) → root < length T → (r : ℕ) → FirstBelow C root r → FirstIn T root n r
-first_in T n C f root h r b = record {
-  before = λ j l. ap (λ (s : ℕ). eqb s whole) (sym (f.values root j h (omega (arith, b.within)))) ∙ b.before j l;
-  within = b.within;
-  fails = λ l. ap (λ (s : ℕ). eqb s whole) (sym (f.values root r h l)) ∙ b.fails l;
-}
+module _ (T : List Entry) (n : ℕ) (C : List ℕ) (f : Filled T n C) (root : ℕ) (h : root < length T) where
+  same_test : (j : ℕ) → j < set_count → eqb (value_at T (n + j) root) whole ≡ eqb (cell_at C root j) whole
+  same_test j l = ap (λ (s : ℕ). eqb s whole) (sym (f.values root j h l))
+
+  pub first_in : (r : Option ℕ) → FirstBelow C root r → FirstIn T root n r
+  first_in None b = λ j l. same_test j l ∙ b j l
+  first_in (Some r) b = record { inside = b.inside; before = λ j l. same_test j (omega (arith, b.inside)) ∙ b.before j l; fails = same_test r b.inside ∙ b.fails }

@@ -1,29 +1,33 @@
 -- What the call answers, and that it is right.
-use Rattle.std.specs.Prelude.{Bool, List, [], ◌∷◌, ◌⊎◌, ◌↔◌, ◌≡◌, ℕ, ◌≤◌, ◌<◌, length, take}
+use Rattle.std.specs.Prelude.{Bool, List, [], ◌∷◌, ◌⊎◌, ◌↔◌, ◌≡◌, ℕ, ◌≤◌, ◌<◌, length, take, Result, Ok, Err}
+use Rattle.std.specs.Option.{unwrap_or}
 use Rattle.ipl.specs.Lists.{All}
 use Rattle.ipl.specs.Formula.{Formula}
 use Rattle.ipl.specs.Kripke.{IsModel, Forces}
+use Rattle.refusal.specs.Numbers.{number_of, place_of}
+use Rattle.refusal.specs.declared.Refusal.{Refusal}
 use Rattle.syntax.specs.Refusal as text
 use Rattle.fork.specs.Fork.{fork, valuation, whole}
 use Rattle.fork.specs.Screen.{letters, set_of, most_letters, Screening, refused, passes, falls}
-use Rattle.fork.specs.declared.Outcome.{Outcome}
-use Rattle.fork.specs.declared.Outcome.TheVariants.{Refused, Passes, Falls}
+use Rattle.fork.specs.declared.LetterSets.{LetterSets}
 use Rattle.fork.specs.declared.Screened.{Screened}
+use Rattle.fork.specs.declared.Screened.TheVariants.{Passes, Falls}
 
 -- The sets of the letters.
-abbrev pub sets_of : Screened → List ℕ
+abbrev pub sets_of : LetterSets → List ℕ
 sets_of r = take r.letters r.sets
 
--- An outcome alone.
-pub record Without (o : Outcome) (r : Screened) : Type 0 where
-  pub outcome_is : r.outcome ≡ o
-  pub no_sets : sets_of r ≡ []
+-- What an answer tells. Sets are told of a formula that falls, and of no other; the place is 0 where a refusal has none.
+abbrev pub told_of : Screened → Screening
+told_of Passes = passes
+told_of (Falls sets) = falls (sets_of sets)
 
--- Sets are told of a formula that falls, and of no other.
-abbrev pub ScreenedAs : Screening → Screened → Type 0
-ScreenedAs (refused number place) r = (r.outcome ≡ Refused number place) × (sets_of r ≡ [])
-ScreenedAs passes r = (r.outcome ≡ Passes) × (sets_of r ≡ [])
-ScreenedAs (falls sets) r = (r.outcome ≡ Falls) × (sets_of r ≡ sets)
+abbrev pub told : Result Screened Refusal → Screening
+told (Err e) = refused (number_of e) (unwrap_or (place_of e) 0)
+told (Ok r) = told_of r
+
+abbrev pub ScreenedAs : Screening → Result Screened Refusal → Type 0
+ScreenedAs o r = told r ≡ o
 
 -- "No valuation on this fork refutes the formula": its root forces it under each.
 abbrev pub HoldsOnFork : Formula → Type 0
@@ -63,14 +67,14 @@ pub record TooManyLetters (s : List ℕ) (number place : ℕ) : Type 0 where
   pub number_is : number ≡ 22
   pub place_is : place ≡ 0
 
--- What each outcome says of the text.
-abbrev pub Says : List ℕ → Outcome → List ℕ → Type 0
-Says s (Refused number place) sets = text.Refused s number place ⊎ TooManyLetters s number place
-Says s Passes sets = (f : Formula) × Screenable s f × HoldsOnFork f
-Says s Falls sets = (f : Formula) × Screenable s f × FirstRefuting f sets
+-- What is told says of the text.
+abbrev pub Says : List ℕ → Screening → Type 0
+Says s (refused number place) = text.Refused s number place ⊎ TooManyLetters s number place
+Says s passes = (f : Formula) × Screenable s f × HoldsOnFork f
+Says s (falls sets) = (f : Formula) × Screenable s f × FirstRefuting f sets
 
 -- For every text, and every answer as the contract states it.
-pub record ScreenRight (s : List ℕ) (r : Screened) : Type 0 where
-  pub says : Says s r.outcome (sets_of r)
+pub record ScreenRight (s : List ℕ) (r : Result Screened Refusal) : Type 0 where
+  pub says : Says s (told r)
   -- "One passes exactly if no valuation on this fork refutes the formula."
-  pub passes_exactly : (f : Formula) → Screenable s f → (r.outcome ≡ Passes) ↔ HoldsOnFork f
+  pub passes_exactly : (f : Formula) → Screenable s f → (r ≡ Ok Passes) ↔ HoldsOnFork f

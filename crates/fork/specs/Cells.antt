@@ -1,6 +1,8 @@
 -- The terms in which the functions that work out a table's parts speak to each other. The values stand in rows, one for each part; a row
 -- has 17 cells, one for each set of the last letter.
-use Rattle.std.specs.Prelude.{true, false, List, ◌≡◌, ℕ, ◌+◌, ◌*◌, ◌-◌, ◌/◌, ◌%◌, ◌^◌, ◌≤◌, ◌<◌, eqb, length, get_or}
+use Rattle.std.specs.Prelude.{Bool, true, false, Option, Some, None, List, ◌≡◌, ℕ, ◌+◌, ◌*◌, ◌-◌, ◌/◌, ◌%◌, ◌^◌, ◌≤◌, ◌<◌, eqb, length, get_or}
+use native.Mathlib.Bridge.{le_prop}
+use native.Mathlib.Nat.{ℕ_set}
 use Rattle.ipl.specs.First.{first_failing}
 use Rattle.syntax.specs.Nodes.{Connective, And, Or, Implies, Entry, letter, falsum, compound, formula_at, Earlier, WellOrdered, Once}
 use Rattle.syntax.specs.Letters.{letters_of, letter_count}
@@ -14,11 +16,6 @@ abbrev pub connected_sets : Connective → ℕ → ℕ → ℕ
 connected_sets And a b = meet a b
 connected_sets Or a b = join a b
 connected_sets Implies a b = implication a b
-
--- A table of implications: that of a and b is entry 17 a + b.
-pub record Implications (t : List ℕ) : Type 0 where
-  pub sized : length t ≡ set_count * set_count
-  pub entry : (a b : ℕ) → a ≤ whole → b ≤ whole → get_or t (a * set_count + b) 0 ≡ implication a b
 
 -- ---- a table's parts under an assignment
 
@@ -37,6 +34,15 @@ pub record Tabled (p : Parts) (letters : ℕ) : Type 0 where
   pub once : Once (held p)
   pub count : letters ≡ letter_count (held p)
   pub few : letters ≤ most_letters
+
+-- It is a fact.
+earlier_prop : (i : ℕ) (e : Entry) → IsProp (Earlier i e)
+earlier_prop i (letter l) = hlevel
+earlier_prop i falsum = hlevel
+earlier_prop i (compound c a b) = hlevel le_prop
+
+pub tabled_prop : (p : Parts) (letters : ℕ) → IsProp (Tabled p letters)
+tabled_prop p letters = hlevel (earlier_prop, le_prop, ℕ_set)
 
 -- ---- cells
 
@@ -87,14 +93,19 @@ pub record Filled (T : List Entry) (n : ℕ) (C : List ℕ) : Type 0 where
   pub good : Cells C
   pub values : (i j : ℕ) → i < length T → j < set_count → cell_at C i j ≡ value_at T (n + j) i
 
--- Below column r of the row all cells hold the whole, and that at r, where there is one, does not.
-pub record FirstBelow (C : List ℕ) (i r : ℕ) : Type 0 where
-  pub before : (j : ℕ) → j < r → eqb (cell_at C i j) whole ≡ true
-  pub within : r ≤ set_count
-  pub fails : r < set_count → eqb (cell_at C i r) whole ≡ false
+-- The first of 17 columns in which a test fails; below it, it passes.
+pub record FirstFailing (test : ℕ → Bool) (r : ℕ) : Type 0 where
+  pub inside : r < set_count
+  pub before : (j : ℕ) → j < r → test j ≡ true
+  pub fails : test r ≡ false
 
--- Below r of 17 columns the part has the whole, and at r, where that is a column, it has not.
-pub record FirstIn (T : List Entry) (root n r : ℕ) : Type 0 where
-  pub before : (j : ℕ) → j < r → eqb (value_at T (n + j) root) whole ≡ true
-  pub within : r ≤ set_count
-  pub fails : r < set_count → eqb (value_at T (n + r) root) whole ≡ false
+abbrev pub FirstOf : (ℕ → Bool) → Option ℕ → Type 0
+FirstOf test None = (j : ℕ) → j < set_count → test j ≡ true
+FirstOf test (Some r) = FirstFailing test r
+
+-- Where a cell of the row has not the whole; where the part has not, from number n on.
+abbrev pub FirstBelow : List ℕ → ℕ → Option ℕ → Type 0
+FirstBelow C i r = FirstOf (λ j. eqb (cell_at C i j) whole) r
+
+abbrev pub FirstIn : List Entry → ℕ → ℕ → Option ℕ → Type 0
+FirstIn T root n r = FirstOf (λ j. eqb (value_at T (n + j) root) whole) r

@@ -1,10 +1,11 @@
 // Assignments by number, in which each letter has a digit below 17.
-ghost use Rattle.std.specs.Prelude.{◌≡◌, ◌≤◌, ◌^◌, take};
+ghost use Rattle.std.specs.Prelude.{◌≡◌, ◌≤◌, ◌^◌};
+ghost use Rattle.fork.specs.Answer.{sets_of};
 ghost use Rattle.fork.specs.Fork.{set_count};
 ghost use Rattle.fork.specs.Screen.{assignment, most_letters};
 ghost use Rattle.fork.specs.Cells.{set_at};
 
-use super::{MOST_LETTERS, SETS};
+use super::{LetterSets, MOST_LETTERS, SETS};
 
 // The set of a letter; the last of three letters stands at place 2.
 pub fn set_at(number: usize, place: u8) -> u8
@@ -31,15 +32,13 @@ pub fn count(letters: u8) -> usize
 }
 
 // The sets of so many letters.
-pub fn sets_of(number: usize, letters: u8) -> [u8; MOST_LETTERS as usize]
+pub fn sets_of(number: usize, letters: u8) -> LetterSets
     requires { letters ≤ most_letters }
-    ensures { take letters result ≡ assignment letters number }
+    ensures { sets_of result ≡ assignment letters number }
 {
     let mut sets = [0; MOST_LETTERS as usize];
-    let mut i: u8 = 0;
-    while i < letters {
-        sets[i as usize] = set_at(number, MOST_LETTERS - letters + i);
-        i += 1;
+    for i in 0..letters {
+        sets[usize::from(i)] = set_at(number, MOST_LETTERS - letters + i);
     }
-    sets
+    LetterSets { sets, letters }
 }

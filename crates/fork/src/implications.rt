@@ -1,7 +1,7 @@
 // The implication of the sets a and b is entry 17 a + b. The program `fork_table` writes these from the definition.
 use super::SETS;
 
-pub const ENTRIES: [u8; SETS * SETS] = [
+pub static ENTRIES: [u8; SETS * SETS] = [
     16, // of 0
     16, 16, 16, 16, 16, 16, 16, 16, 16, 16, 16, 16, 16, 16, 16, 16, 14, // of 1
     16, 14, 16, 14, 16, 14, 16, 14, 16, 14, 16, 14, 16, 14, 16, 16, 13, // of 2

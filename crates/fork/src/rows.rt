@@ -3,88 +3,85 @@ ghost use Rattle.std.specs.Prelude.{◌≡◌, ◌<◌, ◌≤◌, ◌^◌, leng
 ghost use Rattle.syntax.specs.Parts.{entry_of, held, room};
 ghost use Rattle.fork.specs.Fork.{set_count};
 ghost use Rattle.fork.specs.Screen.{most_letters};
-ghost use Rattle.fork.specs.Cells.{entry_value, Cells, Readable, Writable, Written, Tabled, Filled, FirstBelow, FirstIn, Implications};
+ghost use Rattle.fork.specs.Cells.{entry_value, Cells, Readable, Writable, Written, Tabled, tabled_prop, Filled, FirstBelow, FirstIn};
 
 use super::{MOST_LETTERS, SETS, WHOLE, algebra, assignments};
 use syntax::{Part, Parts};
 
 const CELLS: usize = syntax::PARTS * SETS;
 
+// A formula's parts, the row of the whole, and its letters, which are few enough.
+#[derive(Clone, Copy)]
+pub struct Formula<'a> {
+    pub parts: &'a Parts,
+    pub root: u8,
+    pub letters: u8,
+    pub ghost tabled: { Tabled parts.now letters } by { tabled_prop parts.now letters },
+    pub ghost inside: { root < length (held parts.now) },
+}
+
 // The value of a part in a column. The rows of its own parts stand before its row.
-fn value_of(
-    table: &[u8],
-    values: &[u8],
-    row: usize,
-    part: Part,
-    column: usize,
-    number: usize,
-    place: u8,
-) -> u8
-    requires { Implications table.now × Readable values.now row (entry_of part) column }
+fn value_of(values: &[u8], row: usize, part: Part, column: usize, number: usize, place: u8) -> u8
+    requires { Readable values.now row (entry_of part) column }
     ensures { result ≡ entry_value values.now column number place (entry_of part) }
 {
     match part {
         Part::Falsum => 0,
         Part::Letter(_) => assignments::set_at(number, place),
         Part::Compound(c, a, b) => {
-            let left = values[a as usize * SETS + column];
-            let right = values[b as usize * SETS + column];
-            algebra::connected(table, c, left, right)
+            let left = values[usize::from(a) * SETS + column];
+            let right = values[usize::from(b) * SETS + column];
+            algebra::connected(c, left, right)
         }
     }
 }
 
 // Writes the row of a part, under the assignments from this number on.
-fn write_row(table: &[u8], values: &mut [u8], row: usize, part: Part, number: usize, place: u8)
-    requires { Implications table.now × Writable values.old row (entry_of part) number }
+fn write_row(values: &mut [u8], row: usize, part: Part, number: usize, place: u8)
+    requires { Writable values.old row (entry_of part) number }
     ensures { Written values.old row (entry_of part) number place values.new }
 {
-    let mut column = 0;
-    while column < SETS {
-        let value = value_of(table, values, row, part, column, number + column, place);
+    for column in 0..SETS {
+        let value = value_of(values, row, part, column, number + column, place);
         values[row * SETS + column] = value;
-        column += 1;
     }
 }
 
-// Writes the rows of all parts.
-fn fill(table: &[u8], values: &mut [u8], parts: Parts, letters: u8, number: usize)
-    requires { Implications table.now × Cells values.old × Tabled parts letters × (number ≤ set_count ^ most_letters) }
-    ensures { Filled (held parts) number values.new }
-{
-    let mut place = MOST_LETTERS - letters;
-    let mut i: u8 = 0;
-    while i < parts.count {
-        let row = i as usize;
-        let node = parts.nodes[row];
-        let part = node.part;
-        write_row(table, values, row, part, number, place);
-        place += syntax::letters_in(part);
-        i += 1;
-    }
-}
-
-// The first column in which a row has not the whole; their number where there is none.
-fn first_below(values: &[u8], row: usize) -> usize
+// The first column in which a row has not the whole.
+fn first_below(values: &[u8], row: usize) -> Option<usize>
     requires { Cells values.now × (row < room) }
     ensures { FirstBelow values.now row result }
 {
-    let mut column = 0;
-    while column < SETS {
+    for column in 0..SETS {
         if values[row * SETS + column] != WHOLE {
-            return column;
+            return Some(column);
         }
-        column += 1;
     }
-    column
+    None
 }
 
-// The first of 17 assignments under which a part has not the whole, counted from this number; 17 where there is none.
-pub fn first_fall(table: &[u8], parts: Parts, root: u8, letters: u8, number: usize) -> usize
-    requires { Implications table.now × Tabled parts letters × (root < length (held parts)) × (number ≤ set_count ^ most_letters) }
-    ensures { FirstIn (held parts) root number result }
-{
-    let mut values = [0u8; CELLS];
-    fill(table, &mut values, parts, letters, number);
-    first_below(&values, root as usize)
+impl Formula<'_> {
+    // Writes the rows of all parts.
+    fn fill(&self, values: &mut [u8], number: usize)
+        requires { Cells values.old × (number ≤ set_count ^ most_letters) }
+        ensures { Filled (held self.now.parts.now) number values.new }
+    {
+        let mut place = MOST_LETTERS - self.letters;
+        for i in 0..self.parts.count {
+            let row = usize::from(i);
+            let part = self.parts.nodes[row];
+            write_row(values, row, part, number, place);
+            place += syntax::letters_in(part);
+        }
+    }
+
+    // The first of 17 assignments under which the whole formula has not the whole set, counted from this number.
+    pub fn first_fall(&self, number: usize) -> Option<usize>
+        requires { number ≤ set_count ^ most_letters }
+        ensures { FirstIn (held self.now.parts.now) self.now.root number result }
+    {
+        let mut values = [0u8; CELLS];
+        self.fill(&mut values, number);
+        first_below(&values, usize::from(self.root))
+    }
 }

@@ -8,6 +8,7 @@ ghost use Rattle.text.specs.Output.{Appends, Gives};
 ghost use Rattle.fork_table.specs.Table.{row_text, table_text};
 
 use fork::{SETS, WHOLE, sets};
+use text::Draft;
 
 // Every number has at most two digits, and one byte follows it.
 const ROOM: usize = SETS * SETS * 3;
@@ -32,12 +33,10 @@ fn is_implication(a: u8, b: u8, c: u8) -> bool
     if !common_within(c, a, b) {
         return false;
     }
-    let mut d: u8 = 0;
-    while d <= WHOLE {
+    for d in 0..=WHOLE {
         if common_within(d, a, b) && !within(d, c) {
             return false;
         }
-        d += 1;
     }
     true
 }
@@ -46,61 +45,53 @@ fn is_implication(a: u8, b: u8, c: u8) -> bool
 fn implication(a: u8, b: u8) -> u8
     ensures { result ≡ implication a b }
 {
-    let mut c = WHOLE;
-    while 0 < c {
+    for c in (1..=WHOLE).rev() {
         if is_implication(a, b, c) {
             return c;
         }
-        c -= 1;
     }
     0
 }
 
 // The implication of a and b, and what follows it.
-fn write_entry(draft: &mut [u8], at: usize, a: u8, b: u8, after: &[u8]) -> usize
-    ensures { Appends (decimal (implication a b) ++ after.now) draft.old at draft.new result }
+fn write_entry(draft: &mut Draft, a: u8, b: u8, after: &[u8])
+    ensures { Appends (decimal (implication a b) ++ after.now) draft.old draft.new }
 {
-    let end = text::figure(draft, at, b"", implication(a, b) as u64);
-    text::word(draft, end, after)
+    draft.figure(b"", u64::from(implication(a, b)));
+    draft.word(after);
 }
 
-fn write_row(draft: &mut [u8], at: usize, a: u8) -> usize
-    ensures { Appends (row_text a) draft.old at draft.new result }
+fn write_row(draft: &mut Draft, a: u8)
+    ensures { Appends (row_text a) draft.old draft.new }
 {
-    let mut end = at;
-    let mut b: u8 = 0;
-    while b < WHOLE {
-        end = write_entry(draft, end, a, b, b" ");
-        b += 1;
+    for b in 0..WHOLE {
+        write_entry(draft, a, b, b" ");
     }
-    write_entry(draft, end, a, WHOLE, b"\n")
+    write_entry(draft, a, WHOLE, b"\n");
 }
 
-fn write_rows(draft: &mut [u8]) -> usize
-    ensures { Appends table_text draft.old 0 draft.new result }
+fn write_rows(draft: &mut Draft)
+    ensures { Appends table_text draft.old draft.new }
 {
-    let mut end = 0;
-    let mut a: u8 = 0;
-    while a <= WHOLE {
-        end = write_row(draft, end, a);
-        a += 1;
+    for a in 0..=WHOLE {
+        write_row(draft, a);
     }
-    end
 }
 
 fn write_table(output: &mut [u8]) -> usize
     ensures { Gives table_text output.old output.new result }
 {
-    let mut draft = [0u8; text::DRAFT];
-    let n = write_rows(&mut draft);
-    text::hand_over(&draft, n, output)
+    let mut buffer = [0u8; text::DRAFT];
+    let mut draft = Draft::new(&mut buffer);
+    write_rows(&mut draft);
+    draft.hand_over(output)
 }
 
 fn main(rt: HostRuntime) {
-    if !streams::are_open(&rt, &mut rt.stdin(), &mut rt.stderr()) {
+    if streams::check_open(&rt, &mut rt.stdin(), &mut rt.stderr()).is_err() {
         return;
     }
     let mut table = [0u8; ROOM];
     let n = write_table(&mut table);
-    streams::write(&rt, &table[..n]);
+    let _ = streams::write(&rt, &table[..n]);
 }

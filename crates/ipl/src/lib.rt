@@ -36,17 +36,19 @@ pub const PROGRAM: u8 = 0;
 pub const KNOWN: usize = FLATS + STEPS;
 
 // There can be n atoms.
+#[tactic(auto, unfolding(crate::specs::Book::count_in_range))]
 pub fn count_in_range(n: u8) -> bool
     ensures { result ≡ count_in_range n }
 {
-    if 1 <= n { AtomSet::fits(n) } else { false }
+    1 <= n && AtomSet::fits(n)
 }
 
 // An atom below n, or ⊥.
+#[tactic(auto, unfolding(crate::specs::Range::atom_or_bot))]
 pub fn atom_or_bottom(n: u8, x: u8) -> bool
     ensures { result ≡ atom_or_bot n x }
 {
-    if x < n { true } else { x == BOTTOM }
+    x < n || x == BOTTOM
 }
 
 // A set of atoms below n.
@@ -57,34 +59,24 @@ pub fn set_in_range(n: u8, s: AtomSet) -> bool
     s.within(AtomSet::below(n))
 }
 
+#[tactic(auto, unfolding(crate::specs::Range::flat_in_range))]
 pub fn flat_in_range(n: u8, left: AtomSet, right: AtomSet) -> bool
     ensures { result ≡ flat_in_range n (record { left = num left; right = num right }) }
 {
-    if set_in_range(n, left) {
-        set_in_range(n, right)
-    } else {
-        false
-    }
+    set_in_range(n, left) && set_in_range(n, right)
 }
 
+#[tactic(auto, unfolding(crate::specs::Range::implication_in_range))]
 pub fn implication_in_range(n: u8, a: u8, b: u8, c: u8) -> bool
     ensures { result ≡ implication_in_range n (record { a = a; b = b; c = c }) }
 {
-    if a < n {
-        if atom_or_bottom(n, b) {
-            return atom_or_bottom(n, c);
-        }
-    }
-    false
+    a < n && atom_or_bottom(n, b) && atom_or_bottom(n, c)
 }
 
 // A step over this many implications.
+#[tactic(auto, unfolding(crate::specs::Search::step_in_range))]
 pub fn step_in_range(n: u8, implications: usize, number: u8, assumed: AtomSet) -> bool
     ensures { result ≡ step_in_range n implications (record { number = number; assumed = num assumed }) }
 {
-    if (number as usize) < implications {
-        set_in_range(n, assumed)
-    } else {
-        false
-    }
+    usize::from(number) < implications && set_in_range(n, assumed)
 }

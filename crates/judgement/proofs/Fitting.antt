@@ -4,6 +4,7 @@ use mathlib.Core.Logic.{inl}
 use mathlib.Core.Option.{some}
 use mathlib.Core.Path.{◌≡◌, refl, subst}
 use Prim.Native.Nat.{ℕ, ◌≤◌}
+use Rattle.std.proofs.Common.{Result}
 use native.Mathlib.Omega.{arith}
 use lib.Dec.{T, eqb, leb, leb→le}
 use lib.ListN.{length}
@@ -24,7 +25,8 @@ use Rattle.text.specs.Output.{longest, Reported, Gives}
 use Rattle.text.proofs.Lengths.{refusal_length}
 use Rattle.text.proofs.Appending.{reported_gives}
 use Rattle.certificate.specs.Checked.{judgement_of, BeginningChecked}
-use Rattle.certificate.specs.declared.Checked.{Checked}
+use Rattle.certificate.specs.declared.Contents.{Contents}
+use Rattle.certificate.specs.declared.fault.Fault.{Fault}
 use Rattle.judgement.specs.Report.{accepted_line, check_report, check_report_of, Judged}
 use Rattle.judgement.proofs.Printed.{check_report_printed}
 
@@ -60,12 +62,12 @@ judgement_fits s = go (judge s) refl
         omega (arith, refusal_length (eqb number 16) 2 2 number place (omega (arith, small.0)) (omega (arith, small.1)))
 
 -- So it is given whole, or the output is too short.
-judgement_given : {entry exit : List ℕ} {r : ℕ} (s : List ℕ) (k : Checked) → judgement_of s k ≡ judge s → Reported (check_report_of k) entry exit r
+judgement_given : {entry exit : List ℕ} {r : ℕ} (s : List ℕ) (k : Result Contents Fault) → judgement_of s k ≡ judge s → Reported (check_report_of k) entry exit r
     → Gives (check_report (judge s)) entry exit r
 judgement_given {entry} {exit} {r} s k e w =
     reported_gives (judgement_fits s) (subst (λ (T : List ℕ). Reported T entry exit r) (check_report_printed s k e) w)
 
-pub judged : {s entry exit : List ℕ} {more r : ℕ} (k : Checked) → BeginningChecked s more k → Reported (check_report_of k) entry exit r → Judged s more entry exit r
+pub judged : {s entry exit : List ℕ} {more r : ℕ} (k : Result Contents Fault) → BeginningChecked s more k → Reported (check_report_of k) entry exit r → Judged s more entry exit r
 judged {s} k b w = record { given = λ rest l room. judgement_given (s ++ rest) k (b rest l room) w; answer = k; reported = w }
 
 -- Nothing follows.

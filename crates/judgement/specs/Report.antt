@@ -1,9 +1,11 @@
 -- What is printed of a judged certificate (document 01: an answer sheet).
-use Rattle.std.specs.Prelude.{Bool, true, false, List, ◌++◌, ◌⊎◌, ◌≡◌, ℕ, ◌≤◌, eqb, length}
+use Rattle.std.specs.Prelude.{Bool, true, false, List, ◌++◌, ◌⊎◌, ◌≡◌, ℕ, ◌≤◌, eqb, length, Result, Ok, Err}
 use Rattle.certificate.specs.Certificate as certificate
 use Rattle.certificate.specs.Certificate.{Claim, Judgement}
-use Rattle.certificate.specs.declared.Checked.{Checked}
-use Rattle.certificate.specs.declared.Checked.TheVariants as checked
+use Rattle.certificate.specs.Faults.{number_of, place_of}
+use Rattle.certificate.specs.Checked.{place_or_zero}
+use Rattle.certificate.specs.declared.Contents.{Contents}
+use Rattle.certificate.specs.declared.fault.Fault.{Fault}
 use Rattle.certificate.specs.Format.{longest_accepted}
 use Rattle.certificate.specs.Judge.{judge}
 use Rattle.text.specs.Text.{ascii, refusal}
@@ -27,14 +29,14 @@ abbrev pub check_report : Judgement → List ℕ
 check_report (certificate.accepted p c) = accepted_claim c
 check_report (certificate.refused number place) = sheet_refusal number place
 
-abbrev pub check_report_of : Checked → List ℕ
-check_report_of (checked.Accepted k) = accepted_line k.refuting
-check_report_of (checked.Refused number place) = sheet_refusal number place
+abbrev pub check_report_of : Result Contents Fault → List ℕ
+check_report_of (Ok k) = accepted_line k.refuting
+check_report_of (Err fault) = sheet_refusal (number_of fault) (place_or_zero (place_of fault))
 
 -- Of a certificate that begins with s, and `more` bytes after it.
 pub record Judged (s : List ℕ) (more : ℕ) (entry exit : List ℕ) (r : ℕ) : Type 0 where
   -- What is printed of all of it, whatever those bytes are, where s has room for every certificate in range.
   pub given : (rest : List ℕ) → length rest ≡ more → (more ≡ 0) ⊎ (longest_accepted ≤ length s) → Gives (check_report (judge (s ++ rest))) entry exit r
   -- In any case the report of one answer, or nothing.
-  pub answer : Checked
+  pub answer : Result Contents Fault
   pub reported : Reported (check_report_of answer) entry exit r

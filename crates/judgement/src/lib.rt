@@ -4,25 +4,27 @@
 ghost use Rattle.text.specs.Output.{Appends};
 ghost use Rattle.judgement.specs.Report.{accepted_line, check_report_of, Judged};
 
-use certificate::Checked;
+use certificate::{Contents, Fault};
+use text::Draft;
 
-fn write_accepted(draft: &mut [u8], refuting: bool) -> usize
-    ensures { Appends (accepted_line refuting) draft.old 0 draft.new result }
+#[tactic(auto, unfolding(crate::specs::Report::accepted_line, text::specs::Text::ascii))]
+fn write_accepted(draft: &mut Draft, refuting: bool)
+    ensures { Appends (accepted_line refuting) draft.old draft.new }
 {
     if refuting {
-        text::word(draft, 0, b"accepted refuted\n")
+        draft.word(b"accepted refuted\n");
     } else {
-        text::word(draft, 0, b"accepted valid\n")
+        draft.word(b"accepted valid\n");
     }
 }
 
-// Writes the line of a judged certificate at the draft's beginning. A refusal has a place where it is of the claim.
-pub fn write(draft: &mut [u8], checked: Checked) -> usize
-    ensures { Appends (check_report_of checked) draft.old 0 draft.new result }
+// Writes the line of a judged certificate. A refusal has a place where it is of the claim.
+pub fn write(draft: &mut Draft, checked: Result<Contents, Fault>)
+    ensures { Appends (check_report_of checked) draft.old draft.new }
 {
     match checked {
-        Checked::Accepted(k) => write_accepted(draft, k.refuting),
-        Checked::Refused(number, place) => text::refusal(draft, number, place, number == 16),
+        Ok(contents) => write_accepted(draft, contents.refuting),
+        Err(fault) => draft.refusal(fault.number(), fault.place()),
     }
 }
 
@@ -31,7 +33,8 @@ pub fn write(draft: &mut [u8], checked: Checked) -> usize
 pub fn judge(bytes: &[u8], more: usize, output: &mut [u8]) -> usize
     ensures { Judged bytes.now more output.old output.new result }
 {
-    let mut draft = [0u8; text::DRAFT];
-    let n = write(&mut draft, certificate::check_beginning(bytes, more));
-    text::hand_over(&draft, n, output)
+    let mut buffer = [0u8; text::DRAFT];
+    let mut draft = Draft::new(&mut buffer);
+    write(&mut draft, certificate::check_beginning(bytes, more));
+    draft.hand_over(output)
 }

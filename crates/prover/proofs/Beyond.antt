@@ -1,6 +1,6 @@
 -- Whether an implication is realized, as the code tests it: a world that has one of its atoms, by one test; a world beyond another, where
 -- nothing wanted is missing and nothing avoided is there.
-use mathlib.Core.Bool.{not, false, ◌&&◌, ◌||◌}
+use mathlib.Core.Bool.{Bool, not, false, ◌&&◌, ◌||◌}
 use mathlib.Core.Logic.{◌⊎◌, inl, inr}
 use mathlib.Core.Path.{◌≡◌, sym, ap, ap₂, ◌∙◌, subst}
 use Prim.Native.Nat.{ℕ, ◌^◌, ◌<◌}
@@ -41,10 +41,15 @@ module _ (M : ℕ) (bounded : M < 2 ^ limit) where
       ]
 
   -- M has one of three atoms.
-  pub own_tested : (a b c : ℕ) → meets (union (union (single_or_empty a) (single_or_empty b)) (single_or_empty c)) M ≡ has M a || has M b || has M c
+  own_tested : (a b c : ℕ) → meets (union (union (single_or_empty a) (single_or_empty b)) (single_or_empty c)) M ≡ has M a || has M b || has M c
   own_tested a b c =
       union_meets (union (single_or_empty a) (single_or_empty b)) (single_or_empty c)
       ∙ ap₂ ◌||◌ (union_meets (single_or_empty a) (single_or_empty b) ∙ ap₂ ◌||◌ (single_meets a) (single_meets b)) (single_meets c)
+
+  -- As the code joins them.
+  pub own_met : (a b c : ℕ) {one two three pair own : ℕ} {r : Bool} → one ≡ single_or_empty a → two ≡ single_or_empty b → three ≡ single_or_empty c
+      → pair ≡ union one two → own ≡ union pair three → r ≡ meets own M → r ≡ has M a || has M b || has M c
+  own_met a b c e1 e2 e3 ep eo em = em ∙ ap (λ (z : ℕ). meets z M) (eo ∙ ap₂ union (ep ∙ ap₂ union e1 e2) e3) ∙ own_tested a b c
 
 module _ (i : Implication) (M U : ℕ) where
   -- The atoms wanted, and what keeps U from being beyond M.

@@ -24,11 +24,11 @@ use Rattle.prover.specs.Work.{most_work, staying, no_work, work_at, works_of, no
 use Rattle.prover.specs.Calls.{NothingHeld, VerdictKept, Changes, mean_number, mean_of}
 use Rattle.prover.specs.Demand.{Made, add_flat, add_implication, question, set_mark, return_to, page, call_of, Returned, session_of, Meets, Run, end_of}
 use Rattle.prover.specs.Counts.{work_on, together, WorkRight, CountsFrom, CountsRight, IsMean, MeanExact}
-use Rattle.prover.specs.declared.PerVerdict.TheVariants.{Refused}
+use Rattle.prover.specs.PerVerdict.{Refused}
 use Rattle.prover.specs.declared.Work.{Work}
 use Rattle.prover.specs.declared.Authors.{Authors}
 use Rattle.prover.specs.declared.Session.{Session}
-use Rattle.prover.specs.declared.Changed.{Changed}
+use Rattle.prover.specs.Told.{Changed}
 use Rattle.prover.proofs.Works.{row_at, row_decided, with_append}
 use Rattle.prover.proofs.Refusals.{mean_zero}
 use Rattle.prover.proofs.Keeping.{Kept, nothing_in_range, asked_as}

@@ -35,9 +35,6 @@ module _ (n : ℕ) (R : List Flat) (b k A : ℕ) where
     drop_kept e = rw (h, ← rest_is, ← ask_min n R rest b nl, e)
 
 -- The rest of the dropping from k on.
-pub drop_start : (p : ℕ → Bool) (n A : ℕ) → drop_from p n 0 A ≡ drop_from p (n - 0) 0 A
-drop_start p n A = let e : n ≡ n - 0 = omega arith in ap (λ (d : ℕ). drop_from p d 0 A) e
-
 pub drop_next : (p : ℕ → Bool) (n k A : ℕ) → k < n → drop_from p (n - k) k A ≡ drop_from p (n - (k + 1)) (k + 1) (drop_one p k A)
 unfolding drop_from
 drop_next p n k A h =

@@ -31,10 +31,8 @@ use Rattle.prover.specs.Work.{works_of}
 use Rattle.prover.specs.Calls.{number, NothingHeld, VerdictKept, Changes, Given, with_steps, Searched, AskedAs, Asked}
 use Rattle.prover.specs.declared.Work.{Work}
 use Rattle.prover.specs.declared.Session.{Session}
-use Rattle.prover.specs.declared.Changed.{Changed}
-use Rattle.prover.specs.declared.Answered.{Answered}
+use Rattle.prover.specs.Told.{Told, Changed, Answered}
 use Rattle.prover.specs.declared.Held.{Held}
-use Rattle.prover.specs.declared.Verdict.{Verdict}
 use Rattle.prover.proofs.Sessions.{parts, of_parts}
 use Rattle.prover.proofs.Refusals.{clauses_length}
 use Rattle.prover.proofs.Answers.{answer_refused}
@@ -164,7 +162,7 @@ module _ (s : Session) (is_in_range : in_range s ≡ true) (r : Reached (book s)
     next_is o e = rw (known, e)
 
     -- A question that comes to a verdict, and what its answer says.
-    module _ {o : Outcome} {end : State} {v : Verdict} {h : Held} (e : answer (book s) g ≡ o) (no_refusal : number_of o ≡ 0) (a : Given v h end x) (l : Searched s w end x.session) where
+    module _ {o : Outcome} {end : State} {v : Told} {h : Held} (e : answer (book s) g ≡ o) (no_refusal : number_of o ≡ 0) (a : Given v h end x) (l : Searched s w end x.session) where
       same_book : steps_after (steps_of s.steps) o ≡ end.steps → book x.session ≡ next (book s) (B.question w g)
       same_book same = l.holds ∙ sym (next_is o e ∙ rw (eq-eqb (number_of o) 0 no_refusal, same))
 

@@ -5,7 +5,6 @@ pub mod Rows
 pub mod MarkRows
 pub mod Works
 pub mod ModelRows
-pub mod Pages
 pub mod Underway
 pub mod Refusals
 pub mod Returns

@@ -25,14 +25,13 @@ use Rattle.prover.specs.State.{worlds_of, book}
 use Rattle.prover.specs.InRange.{in_range}
 use Rattle.prover.specs.Work.{works_of, with_all}
 use Rattle.prover.specs.Calls.{AskedAs}
-use Rattle.prover.specs.Page.{goals_of, page_number, record_after, found_in, Counted, GoalBy, GoalsDone, PageAnswered}
+use Rattle.prover.specs.Page.{goals_of, page_number, RecordAfter, found_in, Counted, GoalBy, GoalsDone, PageAnswered}
 use Rattle.prover.specs.Demand.{PageReturned, RecordIs, RecordsAre, none as no_record, one_more, held_as, held_by, held_after, PageIs}
 use Rattle.prover.specs.declared.Work.{Work}
 use Rattle.prover.specs.declared.Held.{Held}
-use Rattle.prover.specs.declared.Verdict.{Verdict}
 use Rattle.prover.specs.declared.GoalRecord.{GoalRecord}
 use Rattle.prover.specs.declared.Session.{Session}
-use Rattle.prover.specs.declared.Answered.{Answered}
+use Rattle.prover.specs.Told.{Told, Answered}
 use Rattle.prover.proofs.Works.{with_append}
 use Rattle.prover.proofs.Keeping.{Kept, verdict_in_range, answered_kept, asked_as}
 
@@ -132,21 +131,22 @@ entries_then w (g ∷ gs) (e ∷ es) s t (u, first, rest) =
 -- ---- from the contract to the book
 
 -- The record of a goal searched, and the model in it.
-module _ (w i : ℕ) (x : GoalRecord) (s : Session) (a : Answered) where
-  record_after_lem : (o : Outcome) → AskedAs s w x.goal o a → RecordIs (searched o) x (record_after x a.verdict a.session.worlds)
-  record_after_lem (valid end) asked = ap (λ (v : Verdict). record_after x v a.session.worlds) asked.0.verdict
-  record_after_lem (refuted end) asked =
-      let is = ap (λ (v : Verdict). record_after x v a.session.worlds) asked.0.verdict in
-      (ap (λ (y : GoalRecord). y.goal) is, ap (λ (y : GoalRecord). y.answer) is, ap (λ (y : GoalRecord). worlds_of y.worlds) is ∙ asked.0.shows)
-  record_after_lem (refused number) asked = ap (λ (v : Verdict). record_after x v a.session.worlds) asked.0
-  record_after_lem unfinished asked = absurd asked.0
+module _ (w i : ℕ) (x y : GoalRecord) (s : Session) (a : Answered) (is : RecordAfter x a.verdict a.session.worlds y) where
+  after : (v : Told) → a.verdict ≡ v → RecordAfter x v a.session.worlds y
+  after v same = subst (λ (v : Told). RecordAfter x v a.session.worlds y) same is
 
-  model_after : (o : Outcome) → AskedAs s w x.goal o a → OutcomeRight s.n (book s).flats (book s).implications x.goal (book s).steps o
-      → found_in i (record_after x a.verdict a.session.worlds) ≡ found_as i o
-  model_after (valid end) asked right = ap (λ (v : Verdict). found_in i (record_after x v a.session.worlds)) asked.0.verdict
+  record_after : (o : Outcome) → AskedAs s w x.goal o a → RecordIs (searched o) x y
+  record_after (valid end) asked = after _ asked.0.verdict
+  record_after (refuted end) asked =
+      let r = after _ asked.0.verdict in
+      (ap (λ (y : GoalRecord). y.goal) r, ap (λ (y : GoalRecord). y.answer) r, ap (λ (y : GoalRecord). worlds_of y.worlds) r ∙ asked.0.shows)
+  record_after (refused number) asked = after _ asked.0
+  record_after unfinished asked = absurd asked.0
+
+  model_after : (o : Outcome) → AskedAs s w x.goal o a → OutcomeRight s.n (book s).flats (book s).implications x.goal (book s).steps o → found_in i y ≡ found_as i o
+  model_after (valid end) asked right = ap (found_in i) (after _ asked.0.verdict)
   model_after (refuted end) asked right =
-      ap (λ (v : Verdict). found_in i (record_after x v a.session.worlds)) asked.0.verdict
-      ∙ ap (λ (root : ℕ). record { place = i; root = root } ∷ []) same_root
+      ap (found_in i) (after _ asked.0.verdict) ∙ ap (λ (root : ℕ). record { place = i; root = root } ∷ []) same_root
     where
       some_world : 0 < a.session.worlds.count
       some_world = omega (arith, right.right.refuting.some, ap length asked.0.shows, tabulate_length (row_of a.session.worlds.sets) a.session.worlds.count)
@@ -155,7 +155,7 @@ module _ (w i : ℕ) (x : GoalRecord) (s : Session) (a : Answered) where
       same_root =
           sym (tabulate_at (row_of a.session.worlds.sets) 0 a.session.worlds.count 0 some_world)
           ∙ ap (λ (W : List ℕ). get_or W 0 0) asked.0.shows
-  model_after (refused number) asked right = ap (λ (v : Verdict). found_in i (record_after x v a.session.worlds)) asked.0
+  model_after (refused number) asked right = ap (found_in i) (after _ asked.0).2
   model_after unfinished asked right = absurd asked.0
 
 -- One goal: the entry that the book has for it.
@@ -173,8 +173,8 @@ module _ (w : ℕ) (known : is_author w ≡ true) where
       subst (λ (b : Bool). AskedAs s w g (cond b (answer (book s) g) (refused 20)) a) known (asked_as s h.is_in_range h.reached w g a asked) in
       record {
         runs = (a, as-book, refl, leaves);
-        record_is = subst (RecordIs (searched (answer (book s) g)) x) (sym is) (record_after_lem w i x s a (answer (book s) g) as-book);
-        same_model = ap (found_in i) is ∙ model_after w i x s a (answer (book s) g) as-book (answer_right (book s) g h.reached).0;
+        record_is = record_after w i x y s a is (answer (book s) g) as-book;
+        same_model = model_after w i x y s a is (answer (book s) g) as-book (answer_right (book s) g h.reached).0;
       }
 
   pub goals_follow : (xs ys : List GoalRecord) (s t : Session) (M : List Found) (i : ℕ) → Stays s → GoalsDone s w M i xs ys t

@@ -11,13 +11,13 @@ use lib.Dec.{T}
 use lib.ListN.{length, get_or}
 use Rattle.atoms.specs.Words.{row_of}
 use Rattle.atoms.proofs.Truth.{T_true, true_T}
-use Rattle.ipl.specs.Lists.{tabulate}
 use Rattle.ipl.specs.Clause.{Implication, realizes}
 use Rattle.ipl.specs.Search.{first_at, first_unrealized}
 use Rattle.ipl.proofs.Lists.{tabulate_length, tabulate_at}
-use Rattle.prover.specs.State.{implication_row, implications_of}
-use Rattle.prover.specs.Working.{realized_at, FirstAt, first_pair, Passed}
+use Rattle.prover.specs.State.{implication_row, implications_of, worlds_of}
+use Rattle.prover.specs.Working.{realized_at, first_pair, Passed, AllRealized}
 use Rattle.prover.specs.declared.Implications.{Implications}
+use Rattle.prover.specs.declared.Worlds.{Worlds}
 use Rattle.prover.specs.declared.realization.Pair as code
 
 -- What holds from `from` to before i, and at i, holds to before i + 1.
@@ -25,8 +25,8 @@ pub passed_more : (f : ℕ → Bool) (from i : ℕ) → ((j : ℕ) → from ≤ 
 passed_more f from i h e j k l = elim (dec_lt j i) [ yes m ↦ h j k m | no m ↦ subst (λ (j : ℕ). T (f j)) (omega arith) (true_T e) ]
 
 -- At the first pair nothing is passed.
-pub passed_first : (sets : List ℕ) (count : ℕ) (x : Implications) → Passed sets count x first_pair
-passed_first sets count x = record { worlds = λ w i h k. absurd (not-suc-le-zero h); implications = λ i h. absurd (not-suc-le-zero h) }
+pub passed_first : (W : Worlds) (x : Implications) → Passed W x first_pair
+passed_first W x = record { worlds = λ w i h k. absurd (not-suc-le-zero h); implications = λ i h. absurd (not-suc-le-zero h) }
 
 -- ---- the definitions by places
 
@@ -67,49 +67,58 @@ module _ (W : List ℕ) (X : List Implication) (d : Implication) where
 
 -- ---- the same over the tables
 
-module _ (sets : List ℕ) (count : ℕ) (x : Implications) where
-  at_rows : (u j : ℕ) → u < count → j < x.count
-      → realizes (tabulate (row_of sets) count) (get_or (tabulate (row_of sets) count) u 0) (get_or (implications_of x) j (record { a = 0; b = 0; c = 0 })) ≡ realized_at sets count x u j
-  at_rows u j p q = rw (tabulate_at (row_of sets) 0 count u p, tabulate_at (implication_row x) (record { a = 0; b = 0; c = 0 }) x.count j q)
+module _ (t : Worlds) (x : Implications) where
+  no_implication : Implication
+  no_implication = record { a = 0; b = 0; c = 0 }
 
-  pub pair_found : (p : code.Pair) → Passed sets count x p → p.world < count → p.implication < x.count → realized_at sets count x p.world p.implication ≡ false
-      → first_unrealized (tabulate (row_of sets) count) (implications_of x) (tabulate (row_of sets) count)
-      ≡ some (record { world = row_of sets p.world; number = p.implication; implication = implication_row x p.implication })
+  at_rows : (u j : ℕ) → u < t.count → j < x.count
+      → realizes (worlds_of t) (get_or (worlds_of t) u 0) (get_or (implications_of x) j no_implication) ≡ realized_at t x u j
+  at_rows u j p q = rw (tabulate_at (row_of t.sets) 0 t.count u p, tabulate_at (implication_row x) no_implication x.count j q)
+
+  pub pair_found : (p : code.Pair) → Passed t x p → p.world < t.count → p.implication < x.count → realized_at t x p.world p.implication ≡ false
+      → first_unrealized (worlds_of t) (implications_of x) (worlds_of t)
+      ≡ some (record { world = row_of t.sets p.world; number = p.implication; implication = implication_row x p.implication })
   pair_found p h l m e =
       let X : List Implication = implications_of x in
-      let W : List ℕ = tabulate (row_of sets) count in
-      let lw : length W ≡ count = tabulate_length (row_of sets) count in
+      let W : List ℕ = worlds_of t in
+      let lw : length W ≡ t.count = tabulate_length (row_of t.sets) t.count in
       let lx : length X ≡ x.count = tabulate_length (implication_row x) x.count in
-      subst (λ (w : ℕ). first_unrealized W X W ≡ some (record { world = w; number = p.implication; implication = implication_row x p.implication })) (tabulate_at (row_of sets) 0 count p.world l)
+      subst (λ (w : ℕ). first_unrealized W X W ≡ some (record { world = w; number = p.implication; implication = implication_row x p.implication }))
+      (tabulate_at (row_of t.sets) 0 t.count p.world l)
       (subst (λ (i : Implication). first_unrealized W X W ≡ some (record { world = get_or W p.world 0; number = p.implication; implication = i }))
-      (tabulate_at (implication_row x) (record { a = 0; b = 0; c = 0 }) x.count p.implication m)
-      (first_found W X (record { a = 0; b = 0; c = 0 }) W p.world p.implication
+      (tabulate_at (implication_row x) no_implication x.count p.implication m)
+      (first_found W X no_implication W p.world p.implication
       (λ u j a b. subst T (sym (at_rows u j (omega arith) (omega (arith, lx)))) (h.worlds u j a (omega (arith, lx))))
       (λ j a. subst T (sym (at_rows p.world j l (omega arith))) (h.implications j a))
       (omega (arith, lw)) (omega (arith, lx)) (at_rows p.world p.implication l m ∙ e)))
 
-  pub pair_none : (p : code.Pair) → Passed sets count x p → count ≤ p.world
-      → first_unrealized (tabulate (row_of sets) count) (implications_of x) (tabulate (row_of sets) count) ≡ none
-  pair_none p h l =
+  pub pair_none : AllRealized t x → first_unrealized (worlds_of t) (implications_of x) (worlds_of t) ≡ none
+  pair_none h =
       let X : List Implication = implications_of x in
-      let W : List ℕ = tabulate (row_of sets) count in
-      let lw : length W ≡ count = tabulate_length (row_of sets) count in
+      let W : List ℕ = worlds_of t in
+      let lw : length W ≡ t.count = tabulate_length (row_of t.sets) t.count in
       let lx : length X ≡ x.count = tabulate_length (implication_row x) x.count in
-      first_none W X (record { a = 0; b = 0; c = 0 }) W
-      (λ u j a b. subst T (sym (at_rows u j (omega (arith, lw)) (omega (arith, lx)))) (h.worlds u j (omega (arith, lw)) (omega (arith, lx))))
+      first_none W X no_implication W
+      (λ u j a b. subst T (sym (at_rows u j (omega (arith, lw)) (omega (arith, lx)))) (h u j (omega (arith, lw)) (omega (arith, lx))))
 
   -- One world's implications, and then the next world.
-  pub passed_at : (p : code.Pair) (r : ℕ) → FirstAt sets count p.world x p.implication r → Passed sets count x p → Passed sets count x (record { world = p.world; implication = r })
+  pub passed_at : (p : code.Pair) (r : ℕ) → ((i : ℕ) → p.implication ≤ i → i < r → T (realized_at t x p.world i)) → Passed t x p
+      → Passed t x (record { world = p.world; implication = r })
   passed_at p r f h = record {
     worlds = h.worlds;
-    implications = λ i l. elim (dec_lt i p.implication) [ yes m ↦ h.implications i m | no m ↦ f.passed i (omega arith) l ];
+    implications = λ i l. elim (dec_lt i p.implication) [ yes m ↦ h.implications i m | no m ↦ f i (omega arith) l ];
   }
 
-  pub passed_world : (p : code.Pair) → x.count ≤ p.implication → Passed sets count x p → Passed sets count x (record { world = p.world + 1; implication = 0 })
-  passed_world p l h = record {
+  pub passed_world : (p : code.Pair) → ((i : ℕ) → p.implication ≤ i → i < x.count → T (realized_at t x p.world i)) → Passed t x p
+      → Passed t x (record { world = p.world + 1; implication = 0 })
+  passed_world p f h = record {
     worlds = λ w i a b. elim (dec_lt w p.world) [
       | yes m ↦ h.worlds w i m b
-      | no m ↦ subst (λ (v : ℕ). T (realized_at sets count x v i)) (omega arith) (h.implications i (omega arith))
+      | no m ↦ subst (λ (v : ℕ). T (realized_at t x v i)) (omega arith) ((passed_at p x.count f h).implications i b)
     ];
     implications = λ i a. absurd (not-suc-le-zero a);
   }
+
+  -- Past the last world.
+  pub passed_all : (p : code.Pair) → t.count ≤ p.world → Passed t x p → AllRealized t x
+  passed_all p l h = λ w i a b. h.worlds w i (omega arith) b

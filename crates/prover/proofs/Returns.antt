@@ -7,7 +7,7 @@ use native.Mathlib.Numerals.{add-one}
 use native.Mathlib.Omega.{arith}
 use lib.ListN.{take}
 use Rattle.ipl.specs.Marks.{Mark, place_of, mark_at}
-use Rattle.ipl.specs.Book.{Book, return_to, return_refusal, mark_now, returned, taken}
+use Rattle.ipl.specs.Book.{Book, return_refusal, mark_now, returned}
 use Rattle.ipl.proofs.Lists.{tabulate_length, tabulate_at, tabulate_take}
 use Rattle.ipl.proofs.Book.{return_unrefused}
 use Rattle.sat.specs.Table.{clause_at, clauses}
@@ -37,7 +37,7 @@ flats_cut : (t : Flats) (k : ℕ) → k ≤ t.count → flats_of (record { count
 unfolding clauses
 flats_cut t k h = sym (tabulate_take (clause_at t.left t.right) t.count k h)
 
-implications_cut : (t : Implications) (k : ℕ) → k ≤ t.count → implications_of (record { count = k; a = t.a; b = t.b; c = t.c }) ≡ take k (implications_of t)
+implications_cut : (t : Implications) (k : ℕ) → k ≤ t.count → implications_of (record { count = k; rows = t.rows }) ≡ take k (implications_of t)
 implications_cut t k h = sym (tabulate_take (implication_row t) t.count k h)
 
 steps_cut : (t : Steps) (k : ℕ) → k ≤ t.count → steps_of (record { count = k; numbers = t.numbers; assumed = t.assumed }) ≡ take k (steps_of t)
@@ -53,15 +53,14 @@ abbrev pub cut_flats : Session → ℕ → Flats
 cut_flats s i = record { count = (mark_row s.marks i).flats; left = s.flats.left; right = s.flats.right }
 
 abbrev pub cut_implications : Session → ℕ → Implications
-cut_implications s i =
-    record { count = (mark_row s.marks i).implications; a = s.implications.a; b = s.implications.b; c = s.implications.c }
+cut_implications s i = record { count = (mark_row s.marks i).implications; rows = s.implications.rows }
 
-abbrev cut_book : Session → ℕ → Book
+abbrev pub cut_book : Session → ℕ → Book
 cut_book s i =
     book_of s.n (cut_flats s i) (cut_implications s i)
     (record { count = (mark_row s.marks i).steps; numbers = s.steps.numbers; assumed = s.steps.assumed }) (record { count = i + 1; rows = s.marks.rows })
 
-book_cut : (s : Session) → in_range s ≡ true → (i : ℕ) → i < s.marks.count → cut_book s i ≡ returned (book s) i
+pub book_cut : (s : Session) → in_range s ≡ true → (i : ℕ) → i < s.marks.count → cut_book s i ≡ returned (book s) i
 unfolding returned
 book_cut s is_in_range i l =
     let m = mark_row s.marks i in
@@ -85,7 +84,3 @@ module _ (s : Session) (j : ℕ) (e : return_number s j ≡ 0) where
     pub place_inside : i < s.marks.count
     place_inside =
         omega (arith, q, return_unrefused (book s) j (number_zero s (return_refusal (book s) j) e).1, tabulate_length (mark_row s.marks) s.marks.count)
-
-    pub book_returned : cut_book s i ≡ taken (book s) (return_to j)
-    unfolding taken
-    book_returned = book_cut s return_in_range i place_inside ∙ ap (returned (book s)) q

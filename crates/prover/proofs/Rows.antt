@@ -4,17 +4,17 @@ use mathlib.Core.Path.{◌≡◌, ap, ap₂, ◌∙◌, subst}
 use native.Mathlib.Decide.{dec_lt}
 use Rattle.prover.specs.Working.{learned_row, StepsFit, StepsWritten}
 use Rattle.prover.specs.declared.Steps.{Steps}
-use Prim.Native.Nat.{ℕ, ◌+◌, ◌≤◌, ◌<◌}
+use Prim.Native.Nat.{ℕ, ◌+◌, ◌<◌}
 use native.Mathlib.Omega.{arith}
 use lib.ListN.{length, set}
 use lib.Seq.{get_or-set_same, get_or-set_other}
 use Rattle.atoms.specs.Words.{row_of, row_count, RowSet}
 use Rattle.atoms.proofs.Machine.{row_count_words, same_rows}
-use Rattle.ipl.specs.Clause.{Implication}
 use Rattle.ipl.specs.Range.{flat_table}
 use Rattle.ipl.proofs.Lists.{tabulate_more}
 use Rattle.sat.specs.Table.{clause_at}
-use Rattle.prover.specs.State.{byte_at, implication_row, implications_of}
+use Rattle.prover.specs.State.{byte_at, implication_of, implication_row, implications_of}
+use Rattle.prover.specs.declared.Implication as code
 use Rattle.prover.specs.declared.Implications.{Implications}
 
 -- A column of bytes with one byte stored.
@@ -28,19 +28,11 @@ byte_same t k x h = get_or-set_same t k x 0 h
 pub flat_room : (t : List ℕ) (k : ℕ) → length t ≡ flat_table → k < flat_table → k < row_count t
 flat_room t k l h = omega (arith, row_count_words t flat_table l)
 
-pub implications_more : (t : Implications) (a b c : ℕ) → t.count < length t.a → t.count < length t.b → t.count < length t.c
-    → implications_of (record { count = t.count + 1; a = set t.a t.count a; b = set t.b t.count b; c = set t.c t.count c })
-    ≡ implications_of t ++ (record { a = a; b = b; c = c } ∷ [])
-implications_more t a b c la lb lc =
-    tabulate_more (implication_row t) (implication_row (record { count = t.count + 1; a = set t.a k a; b = set t.b k b; c = set t.c k c })) (record { a = a; b = b; c = c }) k
-    (λ i h. row (byte_other t.a k a i h) (byte_other t.b k b i h) (byte_other t.c k c i h))
-    (row (byte_same t.a k a la) (byte_same t.b k b lb) (byte_same t.c k c lc))
-  where
-    k : ℕ
-    k = t.count
-
-    row : {a b c a2 b2 c2 : ℕ} → a ≡ a2 → b ≡ b2 → c ≡ c2 → ◌≡◌ {A = Implication} (record { a = a; b = b; c = c }) (record { a = a2; b = b2; c = c2 })
-    row p q r = λ i. record { a = p i; b = q i; c = r i }
+pub implications_more : (t : Implications) (x : code.Implication) → t.count < length t.rows
+    → implications_of (record { count = t.count + 1; rows = set t.rows t.count x }) ≡ implications_of t ++ (implication_of x ∷ [])
+implications_more t x l =
+    tabulate_more (implication_row t) (implication_row (record { count = t.count + 1; rows = set t.rows t.count x })) (implication_of x) t.count
+    (λ i h. ap implication_of (get_or-set_other t.rows t.count i x _ (λ e. omega arith))) (ap implication_of (get_or-set_same t.rows t.count x _ l))
 
 -- A learned clause written after those before it.
 pub steps_more : (left right left1 right1 left2 right2 : List ℕ) (flats : ℕ) (steps : Steps) (x : Implications) (k : ℕ) → StepsFit left right flats steps x → k < steps.count
@@ -72,8 +64,3 @@ steps_more left right left1 right1 left2 right2 flats steps x k f lt h A eA l r 
 -- The same row by another name of its set.
 pub row_set_as : {before after : List ℕ} {i x y : ℕ} → RowSet before i x after → x ≡ y → RowSet before i y after
 row_set_as {before} {after} {i} r e = subst (λ (z : ℕ). RowSet before i z after) e r
-
--- At the end of a loop.
-pub steps_end : (left right left2 right2 : List ℕ) (flats : ℕ) (steps : Steps) (x : Implications) (k n : ℕ) → k ≤ n → n ≤ k
-    → StepsWritten left right flats steps x k left2 right2 → StepsWritten left right flats steps x n left2 right2
-steps_end left right left2 right2 flats steps x k n h l c = subst (λ (j : ℕ). StepsWritten left right flats steps x j left2 right2) (omega arith) c

@@ -1,13 +1,9 @@
 -- Laws of a session in range.
 use mathlib.Core.Bool.{Bool, true, ◌&&◌}
-use mathlib.Core.List.{List}
-use mathlib.Core.Path.{◌≡◌, refl, ◌∙◌}
-use Prim.Native.Nat.{ℕ, ◌+◌, ◌≤◌, ◌<◌, zero-le}
-use native.Mathlib.Omega.{arith}
+use mathlib.Core.Path.{◌≡◌}
+use Prim.Native.Nat.{ℕ, ◌≤◌, ◌<◌}
 use lib.Dec.{T, leb, ltb, leb→le, ltb→lt}
 use Rattle.atoms.specs.Sets.{limit}
-use Rattle.atoms.specs.Words.{row_count}
-use Rattle.atoms.proofs.Machine.{same_rows}
 use Rattle.atoms.proofs.Truth.{T_left, T_right, T_and, T_true, true_T}
 use Rattle.ipl.specs.Lists.{all}
 use Rattle.ipl.specs.Range.{flat_table, implication_table, step_table, world_table, set_in_range, flat_in_range, implication_in_range}
@@ -17,11 +13,8 @@ use Rattle.ipl.proofs.Lists.{all_All, All_tabulate}
 use Rattle.ipl.specs.Search.{step_in_range}
 use Rattle.prover.specs.State.{implication_row, step_row, mark_row, flats_of, implications_of, steps_of, worlds_of, marks_of}
 use Rattle.prover.specs.InRange.{flats_in_range, implications_in_range, steps_in_range, worlds_in_range, held_in_range, mark_in_range, marks_in_range, in_range}
-use Rattle.prover.specs.Working.{Usable, first_pair, StepsFit, KnownWritten}
-use Rattle.prover.specs.Search.{Tables, tables, Fresh}
-use Rattle.prover.specs.Settling.{Prepared}
+use Rattle.prover.specs.Working.{Usable, StepsKnown}
 use Rattle.prover.specs.declared.Session.{Session}
-use Rattle.prover.proofs.Pairs.{passed_first}
 
 pub record Parts (s : Session) : Type 0 where
   pub count : T (count_in_range s.n)
@@ -139,36 +132,5 @@ module _ (s : Session) where
         ((All_tabulate (λ t. T (step_in_range s.n s.implications.count t)) (step_row s.steps) s.steps.count).0
         (all_All (step_in_range s.n s.implications.count) (steps_of s.steps) steps_count.1) k h))
 
-    pub steps_fit : (left right : List ℕ) → row_count left ≡ flat_table + step_table → row_count right ≡ flat_table + step_table
-        → StepsFit left right s.flats.count s.steps s.implications
-    steps_fit left right l r = record {
-      flats_room = few_flats;
-      left_room = omega (arith, few_flats, steps_count.0);
-      right_room = omega (arith, few_flats, steps_count.0);
-      count = steps_count.0;
-      implications = usable.count;
-      numbers = number_below_lem;
-    }
-
-    -- The working tables at the start.
-    pub fresh : (t : Tables) → Prepared s t → (left2 right2 : List ℕ) → KnownWritten t.left t.right s.flats s.steps s.implications left2 right2
-        → Fresh s.implications (tables left2 right2 t.numbers t.assumed t.sets)
-        (record { flats = s.flats.count; steps = s.steps.count; worlds = 0; questions = 0; pair = first_pair; kept = 0 })
-    fresh t p left2 right2 k = record {
-      working = record {
-        left_rows = same_rows left2 t.left k.left_size ∙ p.left_rows;
-        right_rows = same_rows right2 t.right k.right_size ∙ p.right_rows;
-        numbers_size = p.numbers_size;
-        assumed_rows = p.assumed_rows;
-        set_rows = p.set_rows;
-        few_flats = few_flats;
-        few_steps = steps_count.0;
-        few_worlds = zero-le;
-        known_rows = rw (k.flat_rows, p.numbers, p.assumed) k.known_rows;
-        pair_number = zero-le;
-        pair_world = zero-le;
-        passed = passed_first t.sets 0 s.implications;
-      };
-      no_worlds = refl;
-      no_questions = refl;
-    }
+    pub steps_known : StepsKnown s.flats s.steps s.implications
+    steps_known = record { few_flats = few_flats; few_steps = steps_count.0; implications = usable.count; numbers = number_below_lem }

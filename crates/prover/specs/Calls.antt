@@ -9,18 +9,16 @@ use Rattle.ipl.specs.Book.{Book, Addition, add_flat, add_implication, add, set_m
 use Rattle.ipl.specs.Book.{open_refusal, flat_refusal, implication_refusal, question_refusal, mark_refusal, return_refusal}
 use Rattle.prover.specs.State.{flats_of, implications_of, worlds_of, marks_of, book}
 use Rattle.prover.specs.InRange.{in_range}
+use Rattle.prover.specs.Told as verdict
+use Rattle.prover.specs.Told.{Told, Changed, Answered}
+use Rattle.prover.specs.PerVerdict as per-verdict
+use Rattle.prover.specs.PerVerdict.{PerVerdict}
 use Rattle.prover.specs.Work.{work_at, works_of, none_done, with_decided}
 use Rattle.prover.specs.declared.Held.{Held}
 use Rattle.prover.specs.declared.Held.TheVariants as held
-use Rattle.prover.specs.declared.Verdict.{Verdict}
-use Rattle.prover.specs.declared.Verdict.TheVariants as verdict
-use Rattle.prover.specs.declared.PerVerdict.{PerVerdict}
-use Rattle.prover.specs.declared.PerVerdict.TheVariants as per-verdict
 use Rattle.prover.specs.declared.Work.{Work}
 use Rattle.prover.specs.declared.Flats.{Flats}
 use Rattle.prover.specs.declared.Session.{Session}
-use Rattle.prover.specs.declared.Changed.{Changed}
-use Rattle.prover.specs.declared.Answered.{Answered}
 use Rattle.atoms.specs.declared.AtomSet.{AtomSet}
 
 -- 5 comes "before all else".
@@ -103,7 +101,7 @@ abbrev pub question_number : Session → ℕ → ℕ → ℕ
 question_number s a g = number s (question_refusal (book s) a g)
 
 -- The answer gives the verdict v; its session keeps it as h, and shows the worlds of the search's end.
-pub record Given (v : Verdict) (h : Held) (end : State) (r : Answered) : Type 0 where
+pub record Given (v : Told) (h : Held) (end : State) (r : Answered) : Type 0 where
   pub verdict : r.verdict ≡ v
   pub kept : r.session.held ≡ h
   pub shows : worlds_of r.session.worlds ≡ end.worlds

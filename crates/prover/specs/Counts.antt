@@ -8,10 +8,9 @@ use Rattle.prover.specs.Work.{most_work, staying, work_at, works_of}
 use Rattle.prover.specs.Calls.{Opened, mean_told}
 use Rattle.prover.specs.Demand.{Made, call_of, Run, end_of}
 use Rattle.prover.specs.declared.Work.{Work}
-use Rattle.prover.specs.declared.PerVerdict.{PerVerdict}
-use Rattle.prover.specs.declared.PerVerdict.TheVariants.{Questions, Refused}
+use Rattle.prover.specs.PerVerdict.{PerVerdict, Questions, Refused}
 use Rattle.prover.specs.declared.Session.{Session}
-use Rattle.prover.specs.declared.Changed.{Changed}
+use Rattle.prover.specs.Told.{Changed}
 
 -- The work that these goals are: their questions and their number, as far as each does not stay.
 abbrev pub work_on : List Decided → Work

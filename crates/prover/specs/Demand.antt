@@ -16,8 +16,9 @@ use Rattle.prover.specs.declared.Held.TheVariants as held
 use Rattle.prover.specs.declared.GoalAnswer.TheVariants as goal
 use Rattle.prover.specs.declared.GoalRecord.{GoalRecord}
 use Rattle.prover.specs.declared.Session.{Session}
-use Rattle.prover.specs.declared.Changed.{Changed}
-use Rattle.prover.specs.declared.Answered.{Answered}
+use Rattle.prover.specs.Told.{Changed, Answered}
+use Rattle.refusal.specs.Numbers.{number_of}
+use Rattle.refusal.specs.declared.Refusal.{Refusal}
 
 -- A call as a program makes it, with any numbers, any author's among them.
 pub data Made : Type 0 where
@@ -84,7 +85,7 @@ end_of s (c ∷ cs) run = end_of (session_of c run.0) cs run.2
 abbrev pub RecordIs : Entry → GoalRecord → GoalRecord → Type 0
 RecordIs (searched (valid end)) x y = y ≡ with_answer x (goal.Valid (length end.steps))
 RecordIs (searched (refuted end)) x y = (y.goal ≡ x.goal) × (y.answer ≡ goal.Refuted (length end.worlds)) × (worlds_of y.worlds ≡ end.worlds)
-RecordIs (searched (refused number)) x y = y ≡ with_answer x (goal.Refused number)
+RecordIs (searched (refused number)) x y = (e : Refusal) × (number_of e ≡ number) × (y ≡ with_answer x (goal.Refused e))
 RecordIs (searched unfinished) x y = ⊥
 RecordIs (refuted_by j) x y = y ≡ with_answer x (goal.RefutedBy j)
 

@@ -1,37 +1,29 @@
 -- The contract of a page of goals: what its records and the session hold next, refused or not.
-use Rattle.std.specs.Prelude.{cond, List, [], ◌∷◌, ◌++◌, map, ◌≡◌, ℕ, suc, leb, get_or, take, drop}
+use Rattle.std.specs.Prelude as code
+use Rattle.std.specs.Prelude.{cond, List, [], ◌∷◌, ◌++◌, map, ◌≡◌, ℕ, suc, get_or}
 use Rattle.std.proofs.Math.Option.{Option, none, some}
+use Rattle.refusal.specs.Numbers.{number_of}
+use Rattle.refusal.specs.declared.Refusal.{Refusal}
 use Rattle.atoms.specs.Words.{row_of}
 use Rattle.ipl.specs.Lists.{tabulate}
-use Rattle.ipl.specs.Page.{goal_table, Found, earliest}
-use Rattle.ipl.specs.Authors.{author_number}
+use Rattle.ipl.specs.Page.{Found, earliest}
 use Rattle.ipl.specs.Book.{page_refusal}
 use Rattle.prover.specs.State.{book}
 use Rattle.prover.specs.Work.{works_of, with_decided}
 use Rattle.prover.specs.Calls.{number, VerdictKept, Asked}
 use Rattle.prover.specs.declared.Worlds.{Worlds}
-use Rattle.prover.specs.declared.Verdict.{Verdict}
-use Rattle.prover.specs.declared.Verdict.TheVariants as verdict
+use Rattle.prover.specs.Told as verdict
+use Rattle.prover.specs.Told.{Told, Changed, Answered}
 use Rattle.prover.specs.declared.Session.{Session}
-use Rattle.prover.specs.declared.Changed.{Changed}
-use Rattle.prover.specs.declared.Answered.{Answered}
 use Rattle.prover.specs.declared.GoalAnswer.{GoalAnswer}
 use Rattle.prover.specs.declared.GoalAnswer.TheVariants as goal
 use Rattle.prover.specs.declared.GoalRecord.{GoalRecord}
-use Rattle.prover.specs.declared.Records.{Records}
-use Rattle.prover.specs.declared.Paged.{Paged}
 use Rattle.prover.specs.declared.paging.Models.{Models}
-use Rattle.prover.specs.declared.paging.Model.{Model}
-use Rattle.prover.specs.declared.paging.Model.TheVariants as model
 
 -- ---- refusals
 
 abbrev pub goals_of : List GoalRecord → List ℕ
 goals_of xs = map (λ (x : GoalRecord). x.goal) xs
-
--- 5, then 20 for author a, then 19 for so many goals.
-abbrev pub list_number : Session → ℕ → ℕ → ℕ
-list_number s a count = number s (author_number a (cond (leb count goal_table) 0 19))
 
 -- 5, or the number that the book has for author a and the goals.
 abbrev pub page_number : Session → ℕ → List ℕ → ℕ
@@ -43,12 +35,12 @@ page_number s a gs = number s (page_refusal (book s) a gs)
 abbrev pub with_answer : GoalRecord → GoalAnswer → GoalRecord
 with_answer x a = record { goal = x.goal; answer = a; worlds = record { count = 0; sets = x.worlds.sets } }
 
--- The record x after its own search, which came to this verdict: "the record of one refuted by its own search holds the worlds"; "a
+-- The record x is y after its own search, which came to this verdict: "the record of one refuted by its own search holds the worlds"; "a
 -- goal that meets 11 or 12 has that in its record".
-abbrev pub record_after : GoalRecord → Verdict → Worlds → GoalRecord
-record_after x (verdict.Valid steps) W = with_answer x (goal.Valid steps)
-record_after x (verdict.Refuted worlds) W = record { goal = x.goal; answer = goal.Refuted worlds; worlds = W }
-record_after x (verdict.Refused number place) W = with_answer x (goal.Refused number)
+abbrev pub RecordAfter : GoalRecord → Told → Worlds → GoalRecord → Type 0
+RecordAfter x (verdict.Valid steps) W y = y ≡ with_answer x (goal.Valid steps)
+RecordAfter x (verdict.Refuted worlds) W y = y ≡ record { goal = x.goal; answer = goal.Refuted worlds; worlds = W }
+RecordAfter x (verdict.Refused number place) W y = (e : Refusal) × (number_of e ≡ number) × (y ≡ with_answer x (goal.Refused e))
 
 -- The model that a record at place i holds, if it holds one.
 abbrev pub found_for : ℕ → GoalAnswer → Worlds → List Found
@@ -56,7 +48,7 @@ found_for i goal.Open W = []
 found_for i (goal.Valid steps) W = []
 found_for i (goal.Refuted worlds) W = record { place = i; root = row_of W.sets 0 } ∷ []
 found_for i (goal.RefutedBy j) W = []
-found_for i (goal.Refused number) W = []
+found_for i (goal.Refused e) W = []
 
 abbrev pub found_in : ℕ → GoalRecord → List Found
 found_in i y = found_for i y.answer y.worlds
@@ -68,9 +60,9 @@ model_row t i = record { place = get_or t.places i 0; root = row_of t.roots i }
 abbrev pub models_of : Models → List Found
 models_of t = tabulate (model_row t) t.count
 
-abbrev pub model_found : Model → Option ℕ
-model_found (model.Of place) = some place
-model_found model.None = none
+abbrev pub model_found : code.Option ℕ → Option ℕ
+model_found (code.Some place) = some place
+model_found code.None = none
 
 -- ---- the contract
 
@@ -82,7 +74,7 @@ Counted s a t = (book t ≡ book s) × VerdictKept (with_decided (works_of s.aut
 -- question.
 abbrev pub GoalBy : Option ℕ → Session → ℕ → GoalRecord → GoalRecord → Session → Type 0
 GoalBy (some j) s a x y t = (y ≡ with_answer x (goal.RefutedBy j)) × Counted s a t
-GoalBy none s a x y t = (r : Answered) × Asked s a x.goal r × (y ≡ record_after x r.verdict r.session.worlds) × (t ≡ r.session)
+GoalBy none s a x y t = (r : Answered) × Asked s a x.goal r × RecordAfter x r.verdict r.session.worlds y × (t ≡ r.session)
 
 -- Where these models were found before it.
 abbrev pub GoalDone : Session → ℕ → List Found → GoalRecord → GoalRecord → Session → Type 0
@@ -100,13 +92,3 @@ pub record PageAnswered (s : Session) (a : ℕ) (xs ys : List GoalRecord) (r : C
   pub refused : r.refusal ≡ page_number s a (goals_of xs)
   pub unchanged : (page_number s a (goals_of xs) ≡ 0 → ⊥) → (r.session ≡ s) × (ys ≡ xs)
   pub done : page_number s a (goals_of xs) ≡ 0 → GoalsDone s a [] 0 xs ys r.session
-
--- The records that are lent by value.
-abbrev pub records_of : Records → List GoalRecord
-records_of t = take t.count t.rows
-
--- The contract of a page of them; rows past the count stay as they were.
-pub record PagedAs (s : Session) (a : ℕ) (records : Records) (r : Paged) : Type 0 where
-  pub same_count : r.records.count ≡ records.count
-  pub past : drop records.count r.records.rows ≡ drop records.count records.rows
-  pub answered : PageAnswered s a (records_of records) (records_of r.records) r.changed

@@ -1,156 +1,160 @@
 -- One turn of the search in code, and its end, against the definition of the search.
-use Rattle.std.specs.Prelude.{List, [], ◌≡◌, ℕ, suc, ◌+◌, ◌-◌, ◌*◌, ◌≤◌, ◌<◌, min, length, set}
+use Rattle.std.specs.Prelude.{List, Option, Some, None, Result, Ok, Err, ◌≡◌, ℕ, ◌+◌, ◌-◌, ◌*◌, ◌≤◌, ◌<◌, min, length, set}
 use Rattle.std.proofs.Math.Option.{none, some}
 use Rattle.atoms.specs.Sets.{limit}
-use Rattle.atoms.specs.Words.{row_of, row_count, RowSet}
-use Rattle.ipl.specs.Lists.{tabulate}
+use Rattle.atoms.specs.Words.{row_count, RowSet}
 use Rattle.ipl.specs.Clause.{Flat}
 use Rattle.ipl.specs.Range.{flat_table, implication_table, step_table, world_table}
 use Rattle.ipl.specs.Question.{ask}
-use Rattle.ipl.specs.Search.{Step, known, drop_from, State, Outcome, valid, refuted, refused, done, more, go_on, most_turns, turn, run}
-use Rattle.sat.specs.Learning.{Kept}
+use Rattle.ipl.specs.Search.{known, drop_from, State, Outcome, valid, refuted, refused, done, more, go_on, most_turns, turn, run}
+use Rattle.refusal.specs.Numbers.{number_of, place_of}
+use Rattle.refusal.specs.declared.Refusal.{Refusal}
+use Rattle.refusal.specs.declared.Refusal.TheVariants as refusal
+use Rattle.sat.specs.Answer.{answer_of}
 use Rattle.sat.specs.Table.{clauses}
-use Rattle.prover.specs.State.{byte_at, implications_of}
-use Rattle.prover.specs.Working.{first_pair, Passed, proves, learned_row}
+use Rattle.atoms.specs.declared.AtomSet.{AtomSet}
+use Rattle.prover.specs.State.{implication_row, flats_of, implications_of, steps_of, worlds_of}
+use Rattle.prover.specs.Working.{first_pair, Passed, proves, learned_row, Follows}
+use Rattle.prover.specs.declared.Flats.{Flats}
 use Rattle.prover.specs.declared.Implications.{Implications}
+use Rattle.prover.specs.declared.Steps.{Steps}
 use Rattle.prover.specs.declared.realization.Pair.{Pair}
-use Rattle.prover.specs.declared.question.Progress.{Progress}
-use Rattle.prover.specs.declared.question.Turned.{Turned}
-use Rattle.prover.specs.declared.question.Turned.TheVariants as turned
+use Rattle.prover.specs.declared.working.Kept.{Kept}
+use Rattle.prover.specs.declared.question.Search.{Search}
 use Rattle.prover.specs.declared.question.End.{End}
 use Rattle.prover.specs.declared.question.End.TheVariants as end
 
--- The working tables: clauses known, steps, worlds.
-pub record Tables : Type 0 where
-  pub left : List ℕ
-  pub right : List ℕ
-  pub numbers : List ℕ
-  pub assumed : List ℕ
-  pub sets : List ℕ
+-- The flat clauses and all clauses known that the tables hold.
+abbrev pub flats_in : Search → List Flat
+flats_in s = clauses s.known.left s.known.right s.flats
 
--- The tables with these columns.
-abbrev pub tables : List ℕ → List ℕ → List ℕ → List ℕ → List ℕ → Tables
-tables left right numbers assumed sets = record { left = left; right = right; numbers = numbers; assumed = assumed; sets = sets }
-
--- The flat clauses, all clauses known, the steps and the worlds that they hold.
-abbrev pub flats_in : Tables → Progress → List Flat
-flats_in t p = clauses t.left t.right p.flats
-
-abbrev pub known_in : Tables → Progress → List Flat
-known_in t p = clauses t.left t.right (p.flats + p.steps)
-
-abbrev pub step_in : List ℕ → List ℕ → ℕ → Step
-step_in numbers assumed k = record { number = byte_at numbers k; assumed = row_of assumed k }
-
-abbrev pub steps_in : Tables → Progress → List Step
-steps_in t p = tabulate (step_in t.numbers t.assumed) p.steps
-
-abbrev pub worlds_in : Tables → Progress → List ℕ
-worlds_in t p = tabulate (row_of t.sets) p.worlds
+abbrev pub known_in : Search → List Flat
+known_in s = clauses s.known.left s.known.right (s.flats + s.steps.count)
 
 -- The state of the definition that they stand for.
-abbrev pub state_of : Tables → Progress → State
-state_of t p = record { steps = steps_in t p; worlds = worlds_in t p; questions = p.questions }
-
--- Tables of the right sizes: the clauses known follow from the flat clauses and the steps, and every pair before the next is realized.
-pub record Working (x : Implications) (t : Tables) (p : Progress) : Type 0 where
-  pub left_rows : row_count t.left ≡ flat_table + step_table
-  pub right_rows : row_count t.right ≡ flat_table + step_table
-  pub numbers_size : length t.numbers ≡ step_table
-  pub assumed_rows : row_count t.assumed ≡ step_table
-  pub set_rows : row_count t.sets ≡ world_table
-  pub few_flats : p.flats ≤ flat_table
-  pub few_steps : p.steps ≤ step_table
-  pub few_worlds : p.worlds ≤ world_table
-  pub known_rows : known_in t p ≡ known (flats_in t p) (implications_of x) (steps_in t p)
-  pub pair_number : p.pair.implication ≤ x.count
-  pub pair_world : p.pair.world ≤ p.worlds
-  pub passed : Passed t.sets p.worlds x p.pair
+abbrev pub state_of : Search → State
+state_of s = record { steps = steps_of s.steps; worlds = worlds_of s.worlds; questions = s.questions }
 
 -- The rows kept follow from all clauses known.
-abbrev pub Keeps : List ℕ → List ℕ → Progress → List ℕ → Type 0
-Keeps left right p kept = Kept left right (p.flats + p.steps) kept p.kept
+abbrev pub Keeps : Search → Type 0
+Keeps s = Follows s.known (s.flats + s.steps.count) s.kept
 
--- They do where the search goes on.
-abbrev pub KeepsOn : List ℕ → List ℕ → List ℕ → Turned → Type 0
-KeepsOn left right kept turned.Valid = Unit {0}
-KeepsOn left right kept turned.Refuted = Unit {0}
-KeepsOn left right kept (turned.Full k) = Unit {0}
-KeepsOn left right kept (turned.More q) = Keeps left right q kept
+-- Tables of the right sizes: the clauses known follow from the flat clauses and the steps, and every pair before the next is realized.
+pub record Working (x : Implications) (s : Search) : Type 0 where
+  pub left_rows : row_count s.known.left ≡ flat_table + step_table
+  pub right_rows : row_count s.known.right ≡ flat_table + step_table
+  pub numbers_size : length s.steps.numbers ≡ step_table
+  pub assumed_rows : row_count s.steps.assumed ≡ step_table
+  pub set_rows : row_count s.worlds.sets ≡ world_table
+  pub few_flats : s.flats ≤ flat_table
+  pub few_steps : s.steps.count ≤ step_table
+  pub few_worlds : s.worlds.count ≤ world_table
+  pub known_rows : known_in s ≡ known (flats_in s) (implications_of x) (steps_of s.steps)
+  pub pair_number : s.pair.implication ≤ x.count
+  pub pair_world : s.pair.world ≤ s.worlds.count
+  pub passed : Passed s.worlds x s.pair
+  pub keeps : Keeps s
+
+-- A question more, and other rows kept.
+abbrev pub asked_more : Search → Kept → Search
+asked_more s kept = record s { kept = kept; questions = s.questions + 1 }
+
+-- A question more can be put.
+pub record Askable (s : Search) : Type 0 where
+  pub flats : s.flats ≤ flat_table
+  pub steps : s.steps.count ≤ step_table
+  pub questions : s.questions < most_turns
+  pub keeps : Keeps s
+
+-- The question was answered right.
+pub record AskedIn (n given asked : ℕ) (s t : Search) (a : Option AtomSet) : Type 0 where
+  pub right : answer_of a ≡ ask (min n limit) (known_in s) given asked
+  pub same : t ≡ asked_more s t.kept
+  pub keeps : Keeps t
 
 -- Point 1 in the tables.
-abbrev pub Began : List ℕ → List ℕ → List ℕ → ℕ → ℕ → Progress → List ℕ → Turned → Type 0
-Began left right sets n goal p after turned.Valid = (none ≡ ask (min n limit) (clauses left right (p.flats + p.steps)) 0 goal) × (after ≡ sets)
-Began left right sets n goal p after turned.Refuted = ⊥
-Began left right sets n goal p after (turned.Full k) = ⊥
-Began left right sets n goal p after (turned.More q) =
-    (m : ℕ) × (some m ≡ ask (min n limit) (clauses left right (p.flats + p.steps)) 0 goal) × RowSet sets 0 m after
-    × (q ≡ record { flats = p.flats; steps = p.steps; worlds = 1; questions = p.questions + 1; pair = first_pair; kept = q.kept })
+abbrev pub Began : ℕ → ℕ → Search → Search → Option End → Type 0
+Began n goal s t None =
+    (m : ℕ) × (some m ≡ ask (min n limit) (known_in s) 0 goal) × RowSet s.worlds.sets 0 m t.worlds.sets
+    × (t ≡ record (asked_more s t.kept) { worlds = record { count = 1; sets = t.worlds.sets }; pair = first_pair })
+    × Keeps t
+Began n goal s t (Some end.Valid) = (none ≡ ask (min n limit) (known_in s) 0 goal) × (t ≡ asked_more s t.kept)
+Began n goal s t (Some end.Refuted) = ⊥
 
 -- Point 3 in the tables: the world m joins.
-abbrev pub Grew : List ℕ → Progress → Pair → ℕ → ℕ → List ℕ → Turned → Type 0
-Grew sets p pair m kept after turned.Valid = ⊥
-Grew sets p pair m kept after turned.Refuted = ⊥
-Grew sets p pair m kept after (turned.Full k) = (k ≡ 11) × (world_table ≤ p.worlds)
-Grew sets p pair m kept after (turned.More q) =
-    (p.worlds < world_table) × RowSet sets p.worlds m after
-    × (q ≡ record { flats = p.flats; steps = p.steps; worlds = p.worlds + 1; questions = p.questions + 1; pair = pair; kept = kept })
+abbrev pub Grew : Pair → ℕ → Search → Search → Result (Unit {0}) Refusal → Type 0
+Grew pair m s t (Ok _) =
+    (s.worlds.count < world_table) × RowSet s.worlds.sets s.worlds.count m t.worlds.sets
+    × (t ≡ record s { worlds = record { count = s.worlds.count + 1; sets = t.worlds.sets }; pair = pair })
+Grew pair m s t (Err e) = (e ≡ refusal.WorldsFull) × (world_table ≤ s.worlds.count)
 
 -- What point 4 relies on.
-pub record LearnFits (n i : ℕ) (numbers : List ℕ) (p : Progress) : Type 0 where
+pub record LearnFits (n i : ℕ) (s : Search) : Type 0 where
   pub few : n ≤ limit
   pub number : i < implication_table
-  pub size : length numbers ≡ step_table
-  pub flats : p.flats ≤ flat_table
-  pub questions : p.questions < most_turns
+  pub size : length s.steps.numbers ≡ step_table
+  pub flats : s.flats ≤ flat_table
+  pub keeps : Keeps s
 
 -- Point 4 in the tables: the step (i, A) and its clause join, and the worlds go.
-pub record StepJoined (n : ℕ) (x : Implications) (i given : ℕ) (t : Tables) (p : Progress) (t2 : Tables) (q : Progress) : Type 0 where
-  pub room : p.steps < step_table
+pub record StepJoined (n : ℕ) (x : Implications) (i given : ℕ) (s t : Search) : Type 0 where
+  pub room : s.steps.count < step_table
   pub A : ℕ
-  pub dropped : A ≡ drop_from (proves n (known_in t p) (byte_at x.b i)) n 0 given
-  pub numbers : t2.numbers ≡ set t.numbers p.steps i
-  pub assumed : RowSet t.assumed p.steps A t2.assumed
-  pub left : RowSet t.left (p.flats + p.steps) (learned_row x i A).left t2.left
-  pub right : RowSet t.right (p.flats + p.steps) (learned_row x i A).right t2.right
-  pub sets : t2.sets ≡ t.sets
-  pub progress : q ≡ record { flats = p.flats; steps = p.steps + 1; worlds = 0; questions = p.questions + 1; pair = first_pair; kept = q.kept }
+  pub dropped : A ≡ drop_from (proves n (known_in s) (implication_row x i).b) n 0 given
+  pub numbers : t.steps.numbers ≡ set s.steps.numbers s.steps.count i
+  pub assumed : RowSet s.steps.assumed s.steps.count A t.steps.assumed
+  pub left : RowSet s.known.left (s.flats + s.steps.count) (learned_row x i A).left t.known.left
+  pub right : RowSet s.known.right (s.flats + s.steps.count) (learned_row x i A).right t.known.right
+  pub same : t ≡ record s {
+    known = t.known;
+    steps = record { count = s.steps.count + 1; numbers = t.steps.numbers; assumed = t.steps.assumed };
+    worlds = record { count = 0; sets = s.worlds.sets };
+    pair = first_pair;
+    kept = t.kept;
+  }
+  pub keeps : Keeps t
 
 -- Point 4, or its refusal.
-abbrev pub Learned : ℕ → Implications → ℕ → ℕ → Tables → Progress → Tables → Turned → Type 0
-Learned n x i given t p t2 turned.Valid = ⊥
-Learned n x i given t p t2 turned.Refuted = ⊥
-Learned n x i given t p t2 (turned.Full k) = (k ≡ 12) × (step_table ≤ p.steps)
-Learned n x i given t p t2 (turned.More q) = StepJoined n x i given t p t2 q
+abbrev pub Learned : ℕ → Implications → ℕ → ℕ → Search → Search → Result (Unit {0}) Refusal → Type 0
+Learned n x i given s t (Ok _) = StepJoined n x i given s t
+Learned n x i given s t (Err e) = (e ≡ refusal.StepsFull) × (step_table ≤ s.steps.count)
 
 -- One turn, over the flat clauses that the tables hold.
-abbrev pub TurnRight : ℕ → ℕ → Implications → Tables → Progress → Tables → Turned → Type 0
-TurnRight n g x t p t2 turned.Valid =
-    (turn n (flats_in t p) (implications_of x) g (state_of t p) ≡ done (valid (record { steps = steps_in t p; worlds = []; questions = suc p.questions }))) × (t2 ≡ t)
-TurnRight n g x t p t2 turned.Refuted = (turn n (flats_in t p) (implications_of x) g (state_of t p) ≡ done (refuted (state_of t p))) × (t2 ≡ t)
-TurnRight n g x t p t2 (turned.Full k) = (rest : State → Outcome) → go_on rest (turn n (flats_in t p) (implications_of x) g (state_of t p)) ≡ refused k
-TurnRight n g x t p t2 (turned.More q) =
-    (turn n (flats_in t p) (implications_of x) g (state_of t p) ≡ more (state_of t2 q)) × Working x t2 q × (flats_in t2 q ≡ flats_in t p) × (q.questions ≡ p.questions + 1)
+abbrev pub TurnRight : ℕ → ℕ → Implications → Search → Search → Result (Option End) Refusal → Type 0
+TurnRight n g x s t (Ok None) =
+    (turn n (flats_in s) (implications_of x) g (state_of s) ≡ more (state_of t)) × Working x t × (flats_in t ≡ flats_in s) × (t.questions ≡ s.questions + 1)
+TurnRight n g x s t (Ok (Some end.Valid)) =
+    (turn n (flats_in s) (implications_of x) g (state_of s) ≡ done (valid (state_of t))) × (t.questions ≤ s.questions + 1)
+TurnRight n g x s t (Ok (Some end.Refuted)) =
+    (turn n (flats_in s) (implications_of x) g (state_of s) ≡ done (refuted (state_of t))) × (t.questions ≤ s.questions + 1)
+TurnRight n g x s t (Err e) =
+    ((rest : State → Outcome) → go_on rest (turn n (flats_in s) (implications_of x) g (state_of s)) ≡ refused (number_of e)) × (place_of e ≡ None)
 
--- The turns that there can be from p on.
-abbrev pub turns_left : Progress → ℕ
-turns_left p = (step_table - p.steps) * (world_table + 2) + (world_table + 1 - p.worlds)
+-- The turns that there can be from s on.
+abbrev pub turns_left : Search → ℕ
+turns_left s = (step_table - s.steps.count) * (world_table + 2) + (world_table + 1 - s.worlds.count)
 
--- The turns from p on, over the flat clauses F, come to the outcome o.
-pub record Underway (n g : ℕ) (x : Implications) (F : List Flat) (o : Outcome) (t : Tables) (p : Progress) : Type 0 where
-  pub working : Working x t p
-  pub flats : flats_in t p ≡ F
-  pub turns : p.questions + turns_left p < most_turns
-  pub rest : run n F (implications_of x) g (most_turns - p.questions) (state_of t p) ≡ o
+-- The turns from s on, over the flat clauses F, come to the outcome o.
+pub record Underway (n g : ℕ) (x : Implications) (F : List Flat) (o : Outcome) (s : Search) : Type 0 where
+  pub working : Working x s
+  pub flats : flats_in s ≡ F
+  pub turns : s.questions + turns_left s < most_turns
+  pub rest : run n F (implications_of x) g (most_turns - s.questions) (state_of s) ≡ o
 
 -- Before the first turn: no world and no question.
-pub record Fresh (x : Implications) (t : Tables) (p : Progress) : Type 0 where
-  pub working : Working x t p
-  pub no_worlds : p.worlds ≡ 0
-  pub no_questions : p.questions ≡ 0
+pub record Fresh (x : Implications) (s : Search) : Type 0 where
+  pub working : Working x s
+  pub no_worlds : s.worlds.count ≡ 0
+  pub no_questions : s.questions ≡ 0
+
+-- The same, over these flat clauses and steps.
+pub record Laid (flats : Flats) (steps : Steps) (x : Implications) (s : Search) : Type 0 where
+  pub fresh : Fresh x s
+  pub same_flats : flats_in s ≡ flats_of flats
+  pub same_steps : steps_of s.steps ≡ steps_of steps
 
 -- The outcome o, as the tables hold it at the end.
-abbrev pub Ended : Outcome → Tables → End → Type 0
-Ended o t (end.Valid p) = (o ≡ valid (record { steps = steps_in t p; worlds = []; questions = suc p.questions })) × (p.questions < most_turns)
-Ended o t (end.Refuted p) = (o ≡ refuted (state_of t p)) × (p.questions < most_turns)
-Ended o t (end.Full k) = o ≡ refused k
+abbrev pub Ended : Outcome → Search → Result End Refusal → Type 0
+Ended o s (Ok end.Valid) = (o ≡ valid (state_of s)) × (s.questions ≤ most_turns)
+Ended o s (Ok end.Refuted) = (o ≡ refuted (state_of s)) × (s.questions ≤ most_turns)
+Ended o s (Err e) = (o ≡ refused (number_of e)) × (place_of e ≡ None)

@@ -12,6 +12,7 @@ use Rattle.prover.specs.declared.Flats.{Flats}
 use Rattle.prover.specs.declared.Implications.{Implications}
 use Rattle.prover.specs.declared.Steps.{Steps}
 use Rattle.prover.specs.declared.Worlds.{Worlds}
+use Rattle.prover.specs.declared.Implication as code_implication
 use Rattle.prover.specs.declared.Mark as code
 use Rattle.prover.specs.declared.Marks.{Marks}
 use Rattle.prover.specs.declared.Session.{Session}
@@ -20,9 +21,13 @@ use Rattle.prover.specs.declared.Session.{Session}
 abbrev pub byte_at : List ℕ → ℕ → ℕ
 byte_at table i = get_or table i 0
 
+-- The implication that the code's three bytes are.
+abbrev pub implication_of : code_implication.Implication → Implication
+implication_of i = record { a = i.a; b = i.b; c = i.c }
+
 -- Row i of each table.
 abbrev pub implication_row : Implications → ℕ → Implication
-implication_row t i = record { a = byte_at t.a i; b = byte_at t.b i; c = byte_at t.c i }
+implication_row t i = implication_of (get_or t.rows i (record { a = 0; b = 0; c = 0 }))
 
 abbrev pub step_row : Steps → ℕ → Step
 step_row t i = record { number = byte_at t.numbers i; assumed = row_of t.assumed i }

@@ -1,12 +1,14 @@
 // A session: it holds clauses, decides whether they force a goal, keeps what it learned, comes back to marks, and counts for whom it worked.
 #![tactic(auto)]
 
-ghost use Rattle.std.specs.Prelude.{◌≡◌, ◌+◌, ◌≤◌};
+ghost use Rattle.std.specs.Prelude.{◌≡◌, OnErr};
+ghost use Rattle.prover.specs.Told.{changed, answered};
+ghost use Rattle.prover.specs.PerVerdict.{per_verdict};
 ghost use Rattle.prover.specs.Calls.{Opened, FlatAdded, ImplicationAdded, Asked, MarkSet, MarkReturned, mean_told};
-ghost use Rattle.ipl.specs.Page.{goal_table};
-ghost use Rattle.prover.specs.Page.{PageAnswered, PagedAs};
+ghost use Rattle.prover.specs.Work.{work_at, works_of};
 
 use atoms::AtomSet;
+use refusal::Refusal;
 
 mod additions;
 mod counting;
@@ -18,11 +20,6 @@ mod realization;
 mod settling;
 mod working;
 
-// An author's work in a session.
-pub use counting::work_of;
-// Whether a call on the session meets no refusal 5.
-pub use range::in_range;
-
 #[derive(Clone, Copy)]
 pub struct Flats {
     pub count: usize,
@@ -30,12 +27,18 @@ pub struct Flats {
     pub right: [u64; ipl::FLATS * atoms::WORDS],
 }
 
+// (a → b) → c.
+#[derive(Clone, Copy, Debug, PartialEq, Eq)]
+pub struct Implication {
+    pub a: u8,
+    pub b: u8,
+    pub c: u8,
+}
+
 #[derive(Clone, Copy)]
 pub struct Implications {
     pub count: usize,
-    pub a: [u8; ipl::IMPLICATIONS],
-    pub b: [u8; ipl::IMPLICATIONS],
-    pub c: [u8; ipl::IMPLICATIONS],
+    pub rows: [Implication; ipl::IMPLICATIONS],
 }
 
 // Learned steps: an implication's number and the set assumed.
@@ -69,7 +72,7 @@ pub struct Marks {
 }
 
 // The classical questions of an author's goals that were decided, and how many goals these were.
-#[derive(Clone, Copy)]
+#[derive(Clone, Copy, Debug, PartialEq, Eq)]
 pub struct Work {
     pub questions: u32,
     pub verdicts: u32,
@@ -82,7 +85,7 @@ pub struct Authors {
 }
 
 // The last verdict with its goal, until a clause is added or a mark returned to.
-#[derive(Clone, Copy)]
+#[derive(Clone, Copy, Debug, PartialEq, Eq)]
 pub enum Held {
     Nothing,
     Valid(u8),
@@ -102,44 +105,29 @@ pub struct Session {
     pub authors: Authors,
 }
 
-// The number of a refusal, or 0; and the session that the caller goes on with.
-#[derive(Clone, Copy)]
-pub struct Changed {
-    pub refusal: u8,
-    pub session: Session,
-}
-
-// Valid, with the count of steps held; refuted, with the count of worlds; or refused, with a number and a place, which is 0 here.
-#[derive(Clone, Copy)]
+// Valid, with the count of steps held; or refuted, with the count of worlds.
+#[derive(Clone, Copy, Debug, PartialEq, Eq)]
 pub enum Verdict {
     Valid(usize),
     Refuted(usize),
-    Refused(u8, usize),
 }
 
-// The answer to a question, and the session that the caller goes on with.
-#[derive(Clone, Copy)]
-pub struct Answered {
-    pub verdict: Verdict,
-    pub session: Session,
-}
-
-// Whole questions per verdict, and the remainder; or refused, with a number.
-#[derive(Clone, Copy)]
-pub enum PerVerdict {
-    Questions(u32, u32),
-    Refused(u8),
+// Whole questions per verdict, and the remainder.
+#[derive(Clone, Copy, Debug, PartialEq, Eq)]
+pub struct Mean {
+    pub whole: u32,
+    pub remainder: u32,
 }
 
 // What a page says of a goal: valid, with the count of steps held; refuted by its own search, with the count of worlds, or by the
-// model of an earlier goal, with that goal's place; or refused, with a number. No page leaves a goal open.
-#[derive(Clone, Copy)]
+// model of an earlier goal, with that goal's place; or refused. No page leaves a goal open.
+#[derive(Clone, Copy, Debug, PartialEq, Eq)]
 pub enum GoalAnswer {
     Open,
     Valid(usize),
     Refuted(usize),
     RefutedBy(usize),
-    Refused(u8),
+    Refused(Refusal),
 }
 
 // A goal of a page, the place for its answer, and beside it the worlds of its own search.
@@ -150,180 +138,87 @@ pub struct GoalRecord {
     pub worlds: Worlds,
 }
 
-// Records for a page, by value: the first `count` of them. There is a row more than a page may have, so that one too many can be lent.
-#[derive(Clone, Copy)]
-pub struct Records {
-    pub count: usize,
-    pub rows: [GoalRecord; ipl::GOALS + 1],
-}
-
-// What a page returned, and its records then.
-#[derive(Clone, Copy)]
-pub struct Paged {
-    pub changed: Changed,
-    pub records: Records,
-}
-
-// A session of n atoms. Refused 5: the empty session of one atom.
-pub fn open(n: u8) -> Changed
-    ensures { Opened n result }
-{
-    if ipl::count_in_range(n) {
-        Changed {
-            refusal: 0,
-            session: additions::empty(n),
-        }
-    } else {
-        Changed {
-            refusal: 5,
-            session: additions::empty(1),
-        }
+impl Session {
+    // The empty session of one atom.
+    pub fn new() -> Session
+        ensures { Opened 1 (record { refusal = 0; session = result }) }
+    {
+        additions::empty(1)
     }
-}
 
-// Adds a flat clause. Refused 5, 6, 7: the session as given.
-pub fn add_flat(s: Session, left: AtomSet, right: AtomSet) -> Changed
-    ensures { FlatAdded s left right result }
-{
-    let refusal = range::flat_refusal(s, left, right);
-    if refusal == 0 {
-        Changed {
-            refusal,
-            session: additions::with_flat(s, left, right),
+    // The empty session of n atoms. Refused 5: that of one atom.
+    pub fn open(&mut self, n: u8) -> Result<(), Refusal>
+        ensures { Opened n (changed result self.new) }
+    {
+        if !ipl::count_in_range(n) {
+            *self = additions::empty(1);
+            return Err(Refusal::Range);
         }
-    } else {
-        Changed {
-            refusal,
-            session: s,
-        }
+        *self = additions::empty(n);
+        Ok(())
     }
-}
 
-// Adds the implication (a → b) → c and its closing clause. Refused 5, 6, 7, 8: the session as given.
-pub fn add_implication(s: Session, a: u8, b: u8, c: u8) -> Changed
-    ensures { ImplicationAdded s a b c result }
-{
-    let refusal = range::implication_refusal(s, a, b, c);
-    if refusal == 0 {
-        Changed {
-            refusal,
-            session: additions::with_implication(s, a, b, c),
-        }
-    } else {
-        Changed {
-            refusal,
-            session: s,
-        }
+    // Adds a flat clause. Refused 5, 6, 7: the session stays as it was.
+    pub fn add_flat(&mut self, left: AtomSet, right: AtomSet) -> Result<(), Refusal>
+        ensures added { FlatAdded self.old left right (changed result self.new) }
+        ensures unchanged { OnErr result (self.new ≡ self.old) }
+    {
+        self.check_flat(left, right)?;
+        self.push_flat(left, right);
+        Ok(())
     }
-}
 
-// Do the clauses force the goal? An author asks. Refused 5, 20, 6, 11, 12: the session as given.
-pub fn ask(s: Session, author: u8, goal: u8) -> Answered
-    ensures { Asked s author goal result }
-{
-    let refusal = range::question_refusal(s, author, goal);
-    if refusal == 0 {
-        settling::settle(s, author, goal)
-    } else {
-        Answered {
-            verdict: Verdict::Refused(refusal, 0),
-            session: s,
-        }
+    // Adds the implication and its closing clause. Refused 5, 6, 7, 8: the session stays as it was.
+    pub fn add_implication(&mut self, i: Implication) -> Result<(), Refusal>
+        ensures added { ImplicationAdded self.old i.a i.b i.c (changed result self.new) }
+        ensures unchanged { OnErr result (self.new ≡ self.old) }
+    {
+        self.check_implication(i)?;
+        self.push_implication(i);
+        Ok(())
     }
-}
 
-// Sets a mark: what is held now can be come back to. Refused 5, 17: the session as given.
-pub fn set_mark(s: Session, mark: u8) -> Changed
-    ensures { MarkSet s mark result }
-{
-    let refusal = range::mark_refusal(s, mark);
-    if refusal == 0 {
-        Changed {
-            refusal,
-            session: marking::with_mark(s, mark),
-        }
-    } else {
-        Changed {
-            refusal,
-            session: s,
-        }
+    // Do the clauses force the goal? An author asks. Refused 5, 20, 6, 11, 12: the session stays as it was.
+    pub fn ask(&mut self, author: u8, goal: u8) -> Result<Verdict, Refusal>
+        ensures asked { Asked self.old author goal (answered result self.new) }
+        ensures unchanged { OnErr result (self.new ≡ self.old) }
+    {
+        self.check_question(author, goal)?;
+        settling::settle(self, author, goal)
     }
-}
 
-// Comes back to a mark: what was added since is dropped, and so is the verdict. Refused 5, 17, 18: the session as given.
-pub fn return_to(s: Session, mark: u8) -> Changed
-    ensures { MarkReturned s mark result }
-{
-    let refusal = range::return_refusal(s, mark);
-    if refusal == 0 {
-        Changed {
-            refusal,
-            session: marking::returned(s, mark),
-        }
-    } else {
-        Changed {
-            refusal,
-            session: s,
-        }
+    // Sets a mark: what is held now can be come back to. Refused 5, 17: the session stays as it was.
+    pub fn set_mark(&mut self, mark: u8) -> Result<(), Refusal>
+        ensures marked { MarkSet self.old mark (changed result self.new) }
+        ensures unchanged { OnErr result (self.new ≡ self.old) }
+    {
+        self.check_mark(mark)?;
+        self.mark_now(mark);
+        Ok(())
     }
-}
 
-// How many questions an author's verdicts took, in the mean. Refused 5, 20, 21.
-pub fn mean(s: Session, author: u8) -> PerVerdict
-    ensures { result ≡ mean_told s author }
-{
-    let refusal = range::mean_refusal(s, author);
-    if refusal == 0 {
-        let authors = s.authors;
-        counting::mean_of(counting::work_of(authors, author))
-    } else {
-        PerVerdict::Refused(refusal)
+    // Comes back to a mark: what was added since is dropped, and so is the verdict. Refused 5, 17, 18: the session stays as it was.
+    pub fn return_to(&mut self, mark: u8) -> Result<(), Refusal>
+        ensures returned { MarkReturned self.old mark (changed result self.new) }
+        ensures unchanged { OnErr result (self.new ≡ self.old) }
+    {
+        let place = self.place_of_mark(mark)?;
+        self.cut_to(place);
+        Ok(())
     }
-}
 
-// An author puts a page of goals, in order: a goal that the root of an earlier model of this page lacks is refuted by the earliest such
-// model, another is a question. Refused 5, 20, 19, 6: the session as given and the records as they were.
-pub fn page(records: &mut [GoalRecord], s: Session, author: u8) -> Changed
-    ensures { PageAnswered s author records.old records.new result }
-{
-    let mut p = paging::begin(s, author, records.len());
-    while p.at < p.count {
-        let i = p.at;
-        let t = paging::take(p, records[i]);
-        records[i] = t.rec;
-        p = t.page;
+    // An author's work; none where there is no such author.
+    pub fn work_of(&self, author: u8) -> Work
+        ensures { result ≡ work_at (works_of self.now.authors) author }
+    {
+        self.authors.work_of(author)
     }
-    paging::end(p)
-}
 
-// Lends the first records to a page. The caller has seen that there are so many.
-fn lend(records: Records, s: Session, author: u8) -> Paged
-    requires { records.count ≤ goal_table + 1 }
-    ensures { PagedAs s author records result }
-{
-    let mut rows = records.rows;
-    let changed = page(&mut rows[..records.count], s, author);
-    Paged {
-        changed,
-        records: Records {
-            count: records.count,
-            rows,
-        },
-    }
-}
-
-// A page of records by value, for callers that lend none. A count above that of the rows is one of too many.
-pub fn page_of(records: Records, s: Session, author: u8) -> Paged
-    ensures { PagedAs s author records result }
-{
-    if records.count <= ipl::GOALS + 1 {
-        return lend(records, s, author);
-    }
-    Paged {
-        changed: Changed {
-            refusal: range::list_refusal(s, author, records.count),
-            session: s,
-        },
-        records,
+    // How many questions an author's verdicts took, in the mean. Refused 5, 20, 21.
+    pub fn mean(&self, author: u8) -> Result<Mean, Refusal>
+        ensures { per_verdict result ≡ mean_told self.now author }
+    {
+        let work = self.work_for_mean(author)?;
+        Ok(work.mean())
     }
 }

@@ -1,265 +1,272 @@
 // What refusals 5 to 8 and 17 to 21 judge.
-ghost use Rattle.std.specs.Prelude.{◌≡◌, not, ◌&&◌, leb, eqb};
-ghost use Rattle.ipl.specs.Clause.{bot};
-ghost use Rattle.ipl.specs.Range.{flat_table};
-ghost use Rattle.prover.specs.State.{mark_of};
+ghost use Rattle.std.specs.Prelude.{◌≡◌, true, false, None, MatchResult, IfOk, IfErr};
+ghost use Rattle.refusal.specs.Numbers.{place_of};
+ghost use Rattle.refusal.specs.declared.Refusal.TheVariants.{Range, NoAuthor};
+ghost use Rattle.ipl.specs.Authors.{is_author};
+ghost use Rattle.ipl.specs.Marks as marks;
+ghost use Rattle.prover.specs.State.{implication_of, mark_of, marks_of};
+ghost use Rattle.prover.specs.Told.{number_in};
+ghost use Rattle.prover.specs.Work.{work_at, works_of};
 ghost use Rattle.prover.specs.Calls.{flat_of, flat_number, implication_number, question_number, mean_number, mark_number, return_number};
-ghost use Rattle.prover.specs.Page.{list_number};
+ghost use Rattle.prover.specs.Page.{goals_of, page_number};
 ghost use Rattle.prover.specs.InRange.{flats_in_range, implications_in_range, steps_in_range, worlds_in_range, held_in_range, mark_in_range, marks_in_range, in_range};
 
-use super::{Flats, Held, Implications, Mark, Marks, Session, Steps, Worlds, counting, marking};
+use super::{
+    Flats, GoalRecord, Held, Implication, Implications, Mark, Marks, Session, Steps, Work, Worlds,
+};
 use atoms::AtomSet;
+use refusal::Refusal;
 
-fn flats_in_range(t: Flats, n: u8) -> bool
-    ensures { result ≡ flats_in_range n t }
-{
-    if ipl::FLATS < t.count {
-        return false;
-    }
-    let mut i = 0;
-    while i < t.count {
-        if !ipl::flat_in_range(n, atoms::row(&t.left, i), atoms::row(&t.right, i)) {
+impl Flats {
+    fn in_range(&self, n: u8) -> bool
+        ensures { result ≡ flats_in_range n self.now }
+    {
+        if ipl::FLATS < self.count {
             return false;
         }
-        i += 1;
+        for i in 0..self.count {
+            if !ipl::flat_in_range(n, atoms::row(&self.left, i), atoms::row(&self.right, i)) {
+                return false;
+            }
+        }
+        true
     }
-    true
 }
 
-fn implications_in_range(t: Implications, n: u8) -> bool
-    ensures { result ≡ implications_in_range n t }
-{
-    if ipl::IMPLICATIONS < t.count {
-        return false;
-    }
-    let mut i = 0;
-    while i < t.count {
-        if !ipl::implication_in_range(n, t.a[i], t.b[i], t.c[i]) {
+impl Implications {
+    fn in_range(&self, n: u8) -> bool
+        ensures { result ≡ implications_in_range n self.now }
+    {
+        if ipl::IMPLICATIONS < self.count {
             return false;
         }
-        i += 1;
+        for i in 0..self.count {
+            let Implication { a, b, c } = self.rows[i];
+            if !ipl::implication_in_range(n, a, b, c) {
+                return false;
+            }
+        }
+        true
     }
-    true
 }
 
-fn steps_in_range(t: Steps, implications: usize, n: u8) -> bool
-    ensures { result ≡ steps_in_range n implications t }
-{
-    if ipl::STEPS < t.count {
-        return false;
-    }
-    let mut i = 0;
-    while i < t.count {
-        if !ipl::step_in_range(n, implications, t.numbers[i], atoms::row(&t.assumed, i)) {
+impl Steps {
+    fn in_range(&self, implications: usize, n: u8) -> bool
+        ensures { result ≡ steps_in_range n implications self.now }
+    {
+        if ipl::STEPS < self.count {
             return false;
         }
-        i += 1;
+        for i in 0..self.count {
+            if !ipl::step_in_range(
+                n,
+                implications,
+                self.numbers[i],
+                atoms::row(&self.assumed, i),
+            ) {
+                return false;
+            }
+        }
+        true
     }
-    true
 }
 
-fn worlds_in_range(t: Worlds, n: u8) -> bool
-    ensures { result ≡ worlds_in_range n t }
-{
-    if ipl::WORLDS < t.count {
-        return false;
-    }
-    let mut i = 0;
-    while i < t.count {
-        if !ipl::set_in_range(n, atoms::row(&t.sets, i)) {
+impl Worlds {
+    fn in_range(&self, n: u8) -> bool
+        ensures { result ≡ worlds_in_range n self.now }
+    {
+        if ipl::WORLDS < self.count {
             return false;
         }
-        i += 1;
-    }
-    true
-}
-
-fn held_in_range(h: Held, n: u8) -> bool
-    ensures { result ≡ held_in_range n h }
-{
-    match h {
-        Held::Nothing => true,
-        Held::Valid(g) => ipl::atom_or_bottom(n, g),
-        Held::Refuted(g) => ipl::atom_or_bottom(n, g),
+        for i in 0..self.count {
+            if !ipl::set_in_range(n, atoms::row(&self.sets, i)) {
+                return false;
+            }
+        }
+        true
     }
 }
 
-fn mark_in_range(m: Mark, flats: usize, implications: usize, steps: usize) -> bool
-    ensures { result ≡ mark_in_range flats implications steps (mark_of m) }
-{
-    if ipl::MARKS <= m.number as usize {
-        return false;
+impl Held {
+    #[tactic(auto, unfolding(crate::specs::InRange::held_in_range))]
+    fn in_range(self, n: u8) -> bool
+        ensures { result ≡ held_in_range n self }
+    {
+        match self {
+            Held::Nothing => true,
+            Held::Valid(goal) | Held::Refuted(goal) => ipl::atom_or_bottom(n, goal),
+        }
     }
-    if flats < m.flats {
-        return false;
-    }
-    if implications < m.implications {
-        return false;
-    }
-    m.steps <= steps
 }
 
-fn marks_in_range(t: Marks, flats: usize, implications: usize, steps: usize) -> bool
-    ensures { result ≡ marks_in_range flats implications steps t }
-{
-    if ipl::MARKS < t.count {
-        return false;
+impl Mark {
+    // What it remembers is at most so many flat clauses, implications and steps.
+    #[tactic(auto, unfolding(crate::specs::InRange::mark_in_range))]
+    fn in_range(self, flats: usize, implications: usize, steps: usize) -> bool
+        ensures { result ≡ mark_in_range flats implications steps (mark_of self) }
+    {
+        usize::from(self.number) < ipl::MARKS
+            && self.flats <= flats
+            && self.implications <= implications
+            && self.steps <= steps
     }
-    let mut i = 0;
-    while i < t.count {
-        if !mark_in_range(t.rows[i], flats, implications, steps) {
+}
+
+impl Marks {
+    fn in_range(&self, flats: usize, implications: usize, steps: usize) -> bool
+        ensures { result ≡ marks_in_range flats implications steps self.now }
+    {
+        if ipl::MARKS < self.count {
             return false;
         }
-        i += 1;
-    }
-    true
-}
-
-// The opposite of refusal 5.
-pub fn in_range(s: Session) -> bool
-    ensures { result ≡ in_range s }
-{
-    let n = s.n;
-    if !ipl::count_in_range(n) {
-        return false;
-    }
-    let flats = s.flats;
-    if !flats_in_range(flats, n) {
-        return false;
-    }
-    let implications = s.implications;
-    if !implications_in_range(implications, n) {
-        return false;
-    }
-    let steps = s.steps;
-    if !steps_in_range(steps, implications.count, n) {
-        return false;
-    }
-    if !worlds_in_range(s.worlds, n) {
-        return false;
-    }
-    let held = s.held;
-    if !held_in_range(held, n) {
-        return false;
-    }
-    let marks = s.marks;
-    marks_in_range(marks, flats.count, implications.count, steps.count)
-}
-
-// The number of the refusal that a flat clause meets, or 0.
-pub fn flat_refusal(s: Session, left: AtomSet, right: AtomSet) -> u8
-    ensures { result ≡ flat_number s (flat_of left right) }
-{
-    if !in_range(s) {
-        return 5;
-    }
-    if !ipl::flat_in_range(s.n, left, right) {
-        return 6;
-    }
-    if ipl::FLATS <= s.flats.count {
-        return 7;
-    }
-    0
-}
-
-// An implication with this b needs a flat row, and there is none.
-fn no_row(b: u8, flats: usize) -> bool
-    ensures { result ≡ not (eqb b bot) && leb flat_table flats }
-{
-    if b == ipl::BOTTOM {
-        false
-    } else {
-        ipl::FLATS <= flats
+        for i in 0..self.count {
+            if !self.rows[i].in_range(flats, implications, steps) {
+                return false;
+            }
+        }
+        true
     }
 }
 
-// The number of the refusal that the implication (a → b) → c meets, or 0.
-pub fn implication_refusal(s: Session, a: u8, b: u8, c: u8) -> u8
-    ensures { result ≡ implication_number s (record { a = a; b = b; c = c }) }
+// There is such an author.
+fn check_author(author: u8) -> Result<(), Refusal>
+    ensures { MatchResult result (λ _. is_author author ≡ true) (λ e. (is_author author ≡ false) × (e ≡ NoAuthor)) }
 {
-    if !in_range(s) {
-        return 5;
+    if ipl::AUTHORS <= usize::from(author) {
+        return Err(Refusal::NoAuthor);
     }
-    if !ipl::implication_in_range(s.n, a, b, c) {
-        return 6;
-    }
-    if no_row(b, s.flats.count) {
-        return 7;
-    }
-    if ipl::IMPLICATIONS <= s.implications.count {
-        return 8;
-    }
-    0
+    Ok(())
 }
 
-// The number of the refusal that a question meets before the search, or 0.
-pub fn question_refusal(s: Session, author: u8, goal: u8) -> u8
-    ensures { result ≡ question_number s author goal }
-{
-    if !in_range(s) {
-        return 5;
+impl Session {
+    // Whether a call on the session meets no refusal 5.
+    #[tactic(auto, unfolding(crate::specs::InRange::in_range))]
+    pub fn in_range(&self) -> bool
+        ensures { result ≡ in_range self.now }
+    {
+        let n = self.n;
+        let implications = self.implications.count;
+        ipl::count_in_range(n)
+            && self.flats.in_range(n)
+            && self.implications.in_range(n)
+            && self.steps.in_range(implications, n)
+            && self.worlds.in_range(n)
+            && self.held.in_range(n)
+            && self
+                .marks
+                .in_range(self.flats.count, implications, self.steps.count)
     }
-    if ipl::AUTHORS <= author as usize {
-        return 20;
-    }
-    if ipl::atom_or_bottom(s.n, goal) { 0 } else { 6 }
-}
 
-// The number of the refusal that an author's mean meets, or 0.
-pub fn mean_refusal(s: Session, author: u8) -> u8
-    ensures { result ≡ mean_number s author }
-{
-    if !in_range(s) {
-        return 5;
+    // Refusal 5, which comes before all else.
+    fn check(&self) -> Result<(), Refusal>
+        ensures { MatchResult result (λ _. in_range self.now ≡ true) (λ e. (in_range self.now ≡ false) × (e ≡ Range)) }
+    {
+        if self.in_range() {
+            Ok(())
+        } else {
+            Err(Refusal::Range)
+        }
     }
-    if ipl::AUTHORS <= author as usize {
-        return 20;
-    }
-    let authors = s.authors;
-    if counting::work_of(authors, author).verdicts == 0 {
-        21
-    } else {
-        0
-    }
-}
 
-// The number of the refusal that setting a mark meets, or 0.
-pub fn mark_refusal(s: Session, mark: u8) -> u8
-    ensures { result ≡ mark_number s mark }
-{
-    if !in_range(s) {
-        return 5;
+    // A flat clause.
+    pub(super) fn check_flat(&self, left: AtomSet, right: AtomSet) -> Result<(), Refusal>
+        ensures { number_in result ≡ flat_number self.now (flat_of left right) }
+    {
+        self.check()?;
+        if !ipl::flat_in_range(self.n, left, right) {
+            return Err(Refusal::Atom);
+        }
+        if ipl::FLATS <= self.flats.count {
+            return Err(Refusal::FlatsFull);
+        }
+        Ok(())
     }
-    if (mark as usize) < ipl::MARKS { 0 } else { 17 }
-}
 
-// The number of the refusal that a return to a mark meets, or 0.
-pub fn return_refusal(s: Session, mark: u8) -> u8
-    ensures { result ≡ return_number s mark }
-{
-    if !in_range(s) {
-        return 5;
+    // An implication; unless its b is ⊥, it needs a flat row.
+    pub(super) fn check_implication(&self, i: Implication) -> Result<(), Refusal>
+        ensures { number_in result ≡ implication_number self.now (implication_of i) }
+    {
+        self.check()?;
+        if !ipl::implication_in_range(self.n, i.a, i.b, i.c) {
+            return Err(Refusal::Atom);
+        }
+        if i.b != ipl::BOTTOM && ipl::FLATS <= self.flats.count {
+            return Err(Refusal::FlatsFull);
+        }
+        if ipl::IMPLICATIONS <= self.implications.count {
+            return Err(Refusal::ImplicationsFull);
+        }
+        Ok(())
     }
-    if ipl::MARKS <= mark as usize {
-        return 17;
-    }
-    let t = s.marks;
-    if marking::place_of(t, mark) < t.count {
-        0
-    } else {
-        18
-    }
-}
 
-// The number of the refusal that a page of so many goals meets before they are judged, or 0.
-pub fn list_refusal(s: Session, author: u8, count: usize) -> u8
-    ensures { result ≡ list_number s author count }
-{
-    if !in_range(s) {
-        return 5;
+    // A question, before the search.
+    pub(super) fn check_question(&self, author: u8, goal: u8) -> Result<(), Refusal>
+        ensures number { number_in result ≡ question_number self.now author goal }
+        ensures no_place { IfErr result (λ e. place_of e ≡ None) }
+    {
+        self.check()?;
+        check_author(author)?;
+        if !ipl::atom_or_bottom(self.n, goal) {
+            return Err(Refusal::Atom);
+        }
+        Ok(())
     }
-    if ipl::AUTHORS <= author as usize {
-        return 20;
+
+    // The work that an author's mean is of.
+    pub(super) fn work_for_mean(&self, author: u8) -> Result<Work, Refusal>
+        ensures number { number_in result ≡ mean_number self.now author }
+        ensures work { IfOk result (λ w. w ≡ work_at (works_of self.now.authors) author) }
+    {
+        self.check()?;
+        check_author(author)?;
+        let work = self.authors.work_of(author);
+        if work.verdicts == 0 {
+            return Err(Refusal::NoMean);
+        }
+        Ok(work)
     }
-    if count <= ipl::GOALS { 0 } else { 19 }
+
+    // Setting a mark.
+    pub(super) fn check_mark(&self, mark: u8) -> Result<(), Refusal>
+        ensures { number_in result ≡ mark_number self.now mark }
+    {
+        self.check()?;
+        if usize::from(mark) < ipl::MARKS {
+            Ok(())
+        } else {
+            Err(Refusal::NoMark)
+        }
+    }
+
+    // The place of a mark that is returned to.
+    pub(super) fn place_of_mark(&self, mark: u8) -> Result<usize, Refusal>
+        ensures number { number_in result ≡ return_number self.now mark }
+        ensures place { IfOk result (λ i. i ≡ marks.place_of mark (marks_of self.now.marks)) }
+    {
+        self.check()?;
+        if ipl::MARKS <= usize::from(mark) {
+            return Err(Refusal::NoMark);
+        }
+        match self.marks.place_of(mark) {
+            Some(place) => Ok(place),
+            None => Err(Refusal::MarkLost),
+        }
+    }
+
+    // A page of goals.
+    pub(super) fn check_page(&self, records: &[GoalRecord], author: u8) -> Result<(), Refusal>
+        ensures { number_in result ≡ page_number self.now author (goals_of records.now) }
+    {
+        self.check()?;
+        check_author(author)?;
+        if ipl::GOALS < records.len() {
+            return Err(Refusal::PageFull);
+        }
+        for rec in records {
+            if !ipl::atom_or_bottom(self.n, rec.goal) {
+                return Err(Refusal::Atom);
+            }
+        }
+        Ok(())
+    }
 }

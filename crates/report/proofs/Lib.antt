@@ -1,5 +1,6 @@
 -- Laws of the printed report, and the theorems.
 pub mod Rows
+pub mod Refusal
 pub mod Printed
 pub mod Fitting
 pub mod Screened

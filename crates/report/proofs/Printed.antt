@@ -17,8 +17,7 @@ use Rattle.prover.specs.Work.{staying, work_at, works_of, none_done}
 use Rattle.prover.specs.Calls.{Searched, Asked, AskedAs}
 use Rattle.prover.specs.declared.Work.{Work}
 use Rattle.prover.specs.declared.Session.{Session}
-use Rattle.prover.specs.declared.Verdict.{Verdict}
-use Rattle.prover.specs.declared.Answered.{Answered}
+use Rattle.prover.specs.Told.{Told, Answered, answered}
 use Rattle.prover.proofs.Works.{row_decided}
 use Rattle.prover.proofs.Keeping.{nothing_in_range, asked_as}
 use Rattle.ipl.specs.Formula.{Formula}
@@ -44,20 +43,20 @@ module _ (s : Session) (w g : ℕ) (r : Answered) where
   pub answer_printed : (o : Outcome) → (T (is_verdict o) → w < author_table) → AskedAs s w g o r → report_by r.verdict r.session w ≡ printed_end s.n (questions_of s) o
   unfolding printed_end is_valid is_refuted
   answer_printed (valid end) known a =
-      ap (λ (v : Verdict). report_by v r.session w) a.0.verdict
+      ap (λ (v : Told). report_by v r.session w) a.0.verdict
       ∙ ap₂ (λ (k : Book) (q : ℕ). valid_report k.n q k.steps) a.1.holds (counted end (known tt) a.1)
   answer_printed (refuted end) known a =
-      ap (λ (v : Verdict). report_by v r.session w) a.0.verdict
+      ap (λ (v : Told). report_by v r.session w) a.0.verdict
       ∙ ap₂ (λ (k : Book) (W : List ℕ). refuted_report k.n (questions_of r.session) (length k.steps) W) a.1.holds a.0.shows
       ∙ ap (λ (q : ℕ). refuted_report s.n q (length end.steps) end.worlds) (counted end (known tt) a.1)
-  answer_printed (refused number) known a = ap (λ (v : Verdict). report_by v r.session w) a.0
+  answer_printed (refused number) known a = ap (λ (v : Told). report_by v r.session w) a.0
   answer_printed unfinished known a = absurd a.0
 
-settled_printed : (t : Formula) (r : Settled) (s : Session) → Holds t s r.goal → Asked s program r.goal (record { verdict = r.verdict; session = r.session })
+settled_printed : (t : Formula) (r : Settled) (s : Session) → Holds t s r.goal → Asked s program r.goal (answered r.verdict r.session)
     → report_of r ≡ printed_end (text_book t).n 0 (answer (text_book t) (goal_of t))
 unfolding tabulate
 settled_printed t r s holds a =
-    let x : Answered = record { verdict = r.verdict; session = r.session } in
+    let x : Answered = answered r.verdict r.session in
     let reached : Reached (book s) = subst Reached (sym holds.clauses) (text_reached t) in
     answer_printed s program r.goal x (answer (book s) r.goal) (λ _. omega arith)
     (asked_as s (nothing_in_range none_done s reached holds.nothing) reached program r.goal x a)
@@ -70,5 +69,5 @@ unfolding printed printed_as
 report_printed s r = by_judgement (judge s)
   where
     by_judgement : (j : Judgement) → SettledAs j r → report_of r ≡ printed_as j
-    by_judgement (judgement.refused number place) h = ap (λ (v : Verdict). report_by v r.session program) h.0
+    by_judgement (judgement.refused number place) h = ap (λ (v : Told). report_by v r.session program) h.0
     by_judgement (judgement.accepted t) h = settled_printed t r h.0 h.1 h.2

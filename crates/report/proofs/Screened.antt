@@ -2,16 +2,14 @@
 use mathlib.Core.Bool.{false}
 use mathlib.Core.List.{List, [], ◌∷◌, ◌++◌}
 use mathlib.Core.Option.{Option, none, some}
-use mathlib.Core.Path.{◌≡◌, refl, sym, ap, ap₂, ◌∙◌, subst}
-use Prim.Native.Nat.{ℕ, ◌*◌, ◌^◌, ◌≤◌, min}
-use native.Mathlib.Decide.{dec_le}
-use native.Mathlib.Nat.{min-eq_left}
+use mathlib.Core.Path.{◌≡◌, refl, ap, subst}
+use Prim.Native.Nat.{ℕ, ◌*◌, ◌^◌, ◌≤◌}
 use native.Mathlib.Omega.{arith}
 use lib.Dec.{ltb}
-use lib.ListN.{length, take, length-append}
-use lib.Seq.{take_all}
+use lib.ListN.{length, length-append}
 use borrow.Author.Tests.{ltb-false}
 use Rattle.atoms.proofs.Truth.{by_cond}
+use Rattle.std.specs.Prelude.{Result}
 use Rattle.ipl.specs.First.{first_failing}
 use Rattle.ipl.specs.Lists.{All}
 use Rattle.syntax.specs.Judge as judgement
@@ -20,49 +18,26 @@ use Rattle.syntax.proofs.Judge.{judge_right}
 use Rattle.fork.specs.Fork.{whole, set_count}
 use Rattle.fork.specs.Screen as fork
 use Rattle.fork.specs.Screen.{most_letters, letters, assignment, gives_whole, Screening, falls_at, screened, screening}
-use Rattle.fork.specs.Answer.{sets_of, ScreenedAs}
-use Rattle.fork.specs.declared.Outcome.TheVariants.{Refused, Passes, Falls}
+use Rattle.fork.specs.Answer.{ScreenedAs}
 use Rattle.fork.specs.declared.Screened.{Screened}
-use Rattle.fork.proofs.Right.{screen_right}
+use Rattle.fork.proofs.Right.{screening_says}
+use Rattle.refusal.specs.declared.Refusal.{Refusal}
 use Rattle.fork.proofs.Digits.{assignment_length, assignment_sets}
 use Rattle.certificate.specs.Format.{each}
 use Rattle.text.specs.Text.{ascii}
 use Rattle.text.specs.Output.{longest, Reported, Gives}
 use Rattle.text.proofs.Appending.{reported_gives}
 use Rattle.text.proofs.Lengths.{labelled_length, refusal_length}
-use Rattle.report.specs.Screening.{set_figure, falls_line, passes_line, screening_line, outcome_line, screened_line, screen_line, ScreenPrinted}
+use Rattle.report.specs.Screening.{set_figure, falls_line, passes_line, screening_line, screened_line, screen_line, ScreenPrinted}
 use Rattle.report.proofs.Fitting.{text_refusal_short}
 
-pub sets_told : (sets : List ℕ) (n k : ℕ) → length sets ≡ most_letters → k ≡ min n most_letters → take k sets ≡ take n sets
-sets_told sets n k l e = elim (dec_le n most_letters) [
-  | yes h ↦ ap (λ (k : ℕ). take k sets) (e ∙ min-eq_left h)
-  | no h ↦ let all : k ≡ most_letters = omega arith in take_all k sets (omega arith) ∙ sym (take_all n sets (omega arith))
-]
-
 -- The line of the answer is that of the screening.
-pub line_is : (o : Screening) (r : Screened) → ScreenedAs o r → screened_line r ≡ screening_line o
-line_is (fork.refused number place) r a = ap₂ outcome_line a.0 a.1
-line_is fork.passes r a = ap₂ outcome_line a.0 a.1
-line_is (fork.falls sets) r a = ap₂ outcome_line a.0 a.1
-
--- An answer of each screening.
-pub told_of : Screening → Screened
-told_of (fork.refused number place) = record { outcome = Refused number place; letters = 0; sets = [] }
-told_of fork.passes = record { outcome = Passes; letters = 0; sets = [] }
-told_of (fork.falls sets) = record { outcome = Falls; letters = length sets; sets = sets }
-
-pub told_as : (o : Screening) → ScreenedAs o (told_of o)
-unfolding told_of
-told_as (fork.refused number place) = (refl, refl)
-told_as fork.passes = (refl, refl)
-told_as (fork.falls sets) = (refl, take_all (length sets) sets (omega arith))
+pub line_is : (o : Screening) (r : Result Screened Refusal) → ScreenedAs o r → screened_line r ≡ screening_line o
+line_is o r a = ap screening_line a
 
 -- What is printed of a text is right.
 pub screen_printed : (s : List ℕ) → ScreenPrinted s
-screen_printed s =
-    let o = screening (judge s) in
-    let r = told_of o in
-    (r.outcome, sets_of r, sym (line_is o r (told_as o)), (screen_right s r (told_as o)).says)
+screen_printed s = (screening (judge s), refl, screening_says s)
 
 figures_length : (sets : List ℕ) → All (λ s. s ≤ whole) sets → length (each set_figure sets) ≤ 3 * length sets
 unfolding each set_figure ascii
@@ -92,7 +67,7 @@ screen_short s = go (judge s) (judge_right s)
         (λ t. omega (arith, refusal_length false 1 3 22 0 (omega arith) (omega arith)))
         (λ t. found_short k (omega (arith, ltb-false most_letters k t)) (first_failing (λ n. gives_whole f (assignment k n)) (set_count ^ k)))
 
-pub screen_given : {entry exit : List ℕ} {n : ℕ} (s : List ℕ) (r : Screened) → ScreenedAs (screening (judge s)) r → Reported (screened_line r) entry exit n
+pub screen_given : {entry exit : List ℕ} {n : ℕ} (s : List ℕ) (r : Result Screened Refusal) → ScreenedAs (screening (judge s)) r → Reported (screened_line r) entry exit n
     → Gives (screen_line s) entry exit n
 unfolding longest
 screen_given {entry} {exit} {n} s r a w =

@@ -5,8 +5,7 @@ use Rattle.ipl.specs.Authors.{program}
 use Rattle.prover.specs.State.{steps_of, worlds_of}
 use Rattle.prover.specs.Work.{work_at, works_of}
 use Rattle.prover.specs.declared.Session.{Session}
-use Rattle.prover.specs.declared.Verdict.{Verdict}
-use Rattle.prover.specs.declared.Verdict.TheVariants.{Valid, Refuted, Refused}
+use Rattle.prover.specs.Told.{Told, Valid, Refuted, Refused, told}
 use Rattle.clausify.specs.declared.Settled.{Settled}
 use Rattle.certificate.specs.Format.{each}
 use Rattle.text.specs.Text.{ascii, labelled, refusal}
@@ -34,15 +33,15 @@ unfoldable pub refuted_report : ℕ → ℕ → ℕ → List ℕ → List ℕ
 refuted_report n questions learned W = ascii "refuted\n" ++ figures n questions learned ++ each world_line W
 
 -- The report of a verdict and the session that holds it, with so many questions. A row past its table's end counts as empty.
-abbrev pub report_with : ℕ → Verdict → Session → List ℕ
+abbrev pub report_with : ℕ → Told → Session → List ℕ
 report_with questions (Valid steps) s = valid_report s.n questions (steps_of s.steps)
 report_with questions (Refuted worlds) s = refuted_report s.n questions (length (steps_of s.steps)) (worlds_of s.worlds)
 report_with questions (Refused number place) s = text_refusal number place
 
 -- To author a: with that author's count.
-abbrev pub report_by : Verdict → Session → ℕ → List ℕ
+abbrev pub report_by : Told → Session → ℕ → List ℕ
 report_by v s a = report_with (work_at (works_of s.authors) a).questions v s
 
 -- "The program is 0."
 abbrev pub report_of : Settled → List ℕ
-report_of r = report_by r.verdict r.session program
+report_of r = report_by (told r.verdict) r.session program

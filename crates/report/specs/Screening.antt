@@ -1,12 +1,11 @@
 -- What is printed of a screened text: `passes`, `falls V1 ..`, `refused K` or `refused 3 at P`.
-use Rattle.std.specs.Prelude.{List, ◌++◌, ◌≡◌, ℕ}
+use Rattle.std.specs.Prelude.{List, ◌++◌, ◌≡◌, ℕ, Result}
 use Rattle.syntax.specs.Judge.{judge}
 use Rattle.fork.specs.Screen as fork
 use Rattle.fork.specs.Screen.{Screening, screening}
-use Rattle.fork.specs.Answer.{sets_of, Says}
-use Rattle.fork.specs.declared.Outcome.{Outcome}
-use Rattle.fork.specs.declared.Outcome.TheVariants.{Refused, Passes, Falls}
+use Rattle.fork.specs.Answer.{told, Says}
 use Rattle.fork.specs.declared.Screened.{Screened}
+use Rattle.refusal.specs.declared.Refusal.{Refusal}
 use Rattle.certificate.specs.Format.{each}
 use Rattle.text.specs.Text.{ascii, labelled}
 use Rattle.report.specs.Report.{text_refusal}
@@ -26,19 +25,14 @@ screening_line (fork.refused number place) = text_refusal number place
 screening_line fork.passes = passes_line
 screening_line (fork.falls sets) = falls_line sets
 
--- The same of the value that stands for it.
-abbrev pub outcome_line : Outcome → List ℕ → List ℕ
-outcome_line (Refused number place) sets = text_refusal number place
-outcome_line Passes sets = passes_line
-outcome_line Falls sets = falls_line sets
-
-abbrev pub screened_line : Screened → List ℕ
-screened_line r = outcome_line r.outcome (sets_of r)
+-- Of the call's answer.
+abbrev pub screened_line : Result Screened Refusal → List ℕ
+screened_line r = screening_line (told r)
 
 -- From the text's bytes.
 abbrev pub screen_line : List ℕ → List ℕ
 screen_line s = screening_line (screening (judge s))
 
--- The line printed of a text is that of an outcome, and what the outcome says of the text is so.
+-- The line printed of a text is that of what is told of it, and that is so.
 abbrev pub ScreenPrinted : List ℕ → Type 0
-ScreenPrinted s = (o : Outcome) × (sets : List ℕ) × (screen_line s ≡ outcome_line o sets) × Says s o sets
+ScreenPrinted s = (o : Screening) × (screen_line s ≡ screening_line o) × Says s o

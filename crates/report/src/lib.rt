@@ -3,11 +3,14 @@
 
 ghost use Rattle.std.specs.Prelude.{length};
 ghost use Rattle.prover.specs.State.{steps_of, worlds_of};
+ghost use Rattle.prover.specs.Told.{told};
 ghost use Rattle.report.specs.Report.{valid_report, refuted_report, report_with, report_of};
 ghost use Rattle.text.specs.Output.{Appends, Reported};
 
 use clausify::Settled;
 use prover::{Session, Verdict};
+use refusal::Refusal;
+use text::Draft;
 
 mod lines;
 pub mod screenings;
@@ -15,44 +18,41 @@ pub mod screenings;
 // A line for each world.
 pub use lines::worlds;
 
-fn write_valid(draft: &mut [u8], s: Session, questions: u32) -> usize
-    ensures { Appends (valid_report s.n questions (steps_of s.steps)) draft.old 0 draft.new result }
+fn write_valid(draft: &mut Draft, s: &Session, questions: u32)
+    ensures { Appends (valid_report s.now.n questions (steps_of s.now.steps)) draft.old draft.new }
 {
-    let steps = s.steps;
-    let first = text::word(draft, 0, b"valid\n");
-    let second = lines::figures(draft, first, s.n, questions, steps.count);
-    lines::steps(draft, second, steps)
+    draft.word(b"valid\n");
+    lines::figures(draft, s, questions);
+    lines::steps(draft, &s.steps);
 }
 
-fn write_refuted(draft: &mut [u8], s: Session, questions: u32) -> usize
-    ensures { Appends (refuted_report s.n questions (length (steps_of s.steps)) (worlds_of s.worlds)) draft.old 0 draft.new result }
+fn write_refuted(draft: &mut Draft, s: &Session, questions: u32)
+    ensures { Appends (refuted_report s.now.n questions (length (steps_of s.now.steps)) (worlds_of s.now.worlds)) draft.old draft.new }
 {
-    let worlds = s.worlds;
-    let first = text::word(draft, 0, b"refuted\n");
-    let second = lines::figures(draft, first, s.n, questions, s.steps.count);
-    lines::worlds(draft, second, worlds)
+    draft.word(b"refuted\n");
+    lines::figures(draft, s, questions);
+    lines::worlds(draft, &s.worlds);
 }
 
-// Writes the report of a verdict and the session that holds it, with so many questions, at the draft's beginning.
-pub fn write(draft: &mut [u8], verdict: Verdict, s: Session, questions: u32) -> usize
-    ensures { Appends (report_with questions verdict s) draft.old 0 draft.new result }
+// Writes the report of a verdict or a refusal, and of the session that holds it, with so many questions.
+pub fn write(draft: &mut Draft, verdict: Result<Verdict, Refusal>, s: &Session, questions: u32)
+    ensures { Appends (report_with questions (told verdict) s.now) draft.old draft.new }
 {
     match verdict {
-        Verdict::Valid(_) => write_valid(draft, s, questions),
-        Verdict::Refuted(_) => write_refuted(draft, s, questions),
-        Verdict::Refused(number, place) => text::refusal(draft, number, place, number == 3),
+        Ok(Verdict::Valid(_)) => write_valid(draft, s, questions),
+        Ok(Verdict::Refuted(_)) => write_refuted(draft, s, questions),
+        Err(refusal) => draft.refusal(refusal.number(), refusal.place()),
     }
 }
 
 // Writes the report of a settled text and returns its length; 0 where it does not fit.
-pub fn report(settled: Settled, output: &mut [u8]) -> usize
-    ensures { Reported (report_of settled) output.old output.new result }
+pub fn report(settled: &Settled, output: &mut [u8]) -> usize
+    ensures { Reported (report_of settled.now) output.old output.new result }
 {
-    let mut draft = [0u8; text::DRAFT];
-    let verdict = settled.verdict;
-    let session = settled.session;
-    let authors = session.authors;
-    let questions = prover::work_of(authors, ipl::PROGRAM).questions;
-    let n = write(&mut draft, verdict, session, questions);
-    text::hand_over(&draft, n, output)
+    let mut buffer = [0u8; text::DRAFT];
+    let mut draft = Draft::new(&mut buffer);
+    let session = &settled.session;
+    let questions = session.work_of(ipl::PROGRAM).questions;
+    write(&mut draft, settled.verdict, session, questions);
+    draft.hand_over(output)
 }

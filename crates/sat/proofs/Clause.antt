@@ -1,15 +1,14 @@
 -- What one clause adds. l and r are its sides, y and x what is known, a what is open of l and b what is open of r.
-use Rattle.std.proofs.Common.{◌≡◌, ℕ, ◌-◌, ◌^◌, ◌<◌, max, true, false, eqb, sym, ap, ◌∙◌, subst, le_refl, arith, eqb-true}
+use Rattle.std.proofs.Common.{◌≡◌, ℕ, ◌-◌, ◌<◌, max, false, eqb, sym, ap, ◌∙◌, subst, le_refl, arith}
 use native.Mathlib.Decide.{dec_lt, ℕ_discrete}
-use lib.Bits.{or_lt}
 use borrow.Author.Tests.{eqb-false}
 use Rattle.atoms.specs.Words.{num, HighestOrEmpty}
-use Rattle.atoms.specs.Sets.{bit_at, limit, union, minus, Highest}
+use Rattle.atoms.specs.Sets.{bit_at, union, minus, meets, Highest}
 use Rattle.atoms.proofs.Bits.{bit_le, bit_zero, bit_other}
-use Rattle.sat.specs.Table.{Within, Apart, Meets, Holds}
-use Rattle.sat.specs.Knowledge.{PartialIs, Extends, Proper, Grown}
-use Rattle.sat.specs.declared.Partial.{Partial}
-use Rattle.sat.proofs.Table.{union_bits, minus_bits}
+use Rattle.sat.specs.Table.{Within, Apart, Meets, Holds, Proper}
+use Rattle.sat.specs.Knowledge.{PartialIs, Extends, Grown}
+use Rattle.sat.specs.declared.known.Partial.{Partial}
+use Rattle.sat.proofs.Table.{union_bits, minus_bits, meets_of}
 
 -- A set that is its highest atom has no other.
 only : (s : ℕ) → Highest s s → (i k : ℕ) → bit_at s i ≡ 1 → bit_at s k ≡ 1 → i ≡ k
@@ -43,15 +42,11 @@ module _ (l r y x a b : ℕ) (ea : a ≡ minus l y) (eb : b ≡ minus r x) where
   conflict za zb m h c = none_right zb m h (c (all_left za m h))
 
   -- One atom is open on the right and none on the left: it is in every model.
-  force_has : a ≡ 0 → Highest b b → b < 2 ^ limit → (y2 : ℕ) → y2 ≡ union y b → Proper y x → Grown (Holds l r) y x y2 x
-  force_has za top lb y2 ey f = record {
+  force_has : a ≡ 0 → Highest b b → (y2 : ℕ) → y2 ≡ union y b → Proper y2 x → Grown (Holds l r) y x y2 x
+  force_has za top y2 ey f = record {
     more_has = λ i. omega (arith, hy i);
     more_lacks = λ i. le_refl _;
-    proper = record {
-      apart = λ i. omega (arith, hy i, f.apart i, hb i, bit_le r i);
-      has_below = subst (λ (z : ℕ). z < 2 ^ limit) (sym ey) (or_lt limit y b f.has_below lb);
-      lacks_below = f.lacks_below;
-    };
+    proper = f;
     keeps = λ m h c. record { includes = inside m h (c (all_left za m h)); avoids = h.avoids };
   }
     where
@@ -67,15 +62,11 @@ module _ (l r y x a b : ℕ) (ea : a ≡ minus l y) (eb : b ≡ minus r x) where
       ]
 
   -- One atom is open on the left and none on the right: it is in no model.
-  force_lacks : b ≡ 0 → Highest a a → a < 2 ^ limit → (x2 : ℕ) → x2 ≡ union x a → Proper y x → Grown (Holds l r) y x y x2
-  force_lacks zb top la x2 ex f = record {
+  force_lacks : b ≡ 0 → Highest a a → (x2 : ℕ) → x2 ≡ union x a → Proper y x2 → Grown (Holds l r) y x y x2
+  force_lacks zb top x2 ex f = record {
     more_has = λ i. le_refl _;
     more_lacks = λ i. omega (arith, hx i);
-    proper = record {
-      apart = λ i. omega (arith, hx i, f.apart i, ha i, bit_le l i);
-      has_below = f.has_below;
-      lacks_below = subst (λ (z : ℕ). z < 2 ^ limit) (sym ex) (or_lt limit x a f.lacks_below la);
-    };
+    proper = f;
     keeps = λ m h c. record { includes = h.includes; avoids = outside m h c };
   }
     where
@@ -98,17 +89,22 @@ module _ (l r y x a b : ℕ) (ea : a ≡ minus l y) (eb : b ≡ minus r x) where
         ]
       ]
 
-  -- The same by the tests of the code: t is the highest open atom, and fills what is open.
-  pub learn_has : (t : ℕ) (q : Partial) → a ≡ 0 → eqb b 0 ≡ false → HighestOrEmpty b t → eqb t b ≡ true → PartialIs q (union y t) x → Proper y x
-      → Grown (Holds l r) y x (num q.has) (num q.lacks)
-  learn_has t q za nb h e is f =
-      let same : t ≡ b = eqb-true t b e in
-      rw is.lacks_is
-      (force_has za (subst (Highest b) same (h.highest (positive b nb))) (subst (λ (z : ℕ). z < 2 ^ limit) same h.bounded) (num q.has) (is.has_is ∙ ap (union y) same) f)
+  -- What is open is not known.
+  pub open_right : meets x b ≡ false
+  open_right = meets_of x b (λ i. omega (arith, hb i, bit_le r i, bit_le x i))
 
-  pub learn_lacks : (t : ℕ) (q : Partial) → b ≡ 0 → eqb a 0 ≡ false → HighestOrEmpty a t → eqb t a ≡ true → PartialIs q y (union x t) → Proper y x
+  pub open_left : meets y a ≡ false
+  open_left = meets_of y a (λ i. omega (arith, ha i, bit_le l i, bit_le y i))
+
+  -- The same by the tests of the code: t is the highest open atom, and fills what is open.
+  pub learn_has : (t : ℕ) (q : Partial) → a ≡ 0 → eqb b 0 ≡ false → HighestOrEmpty b t → t ≡ b → PartialIs q (union y t) x
       → Grown (Holds l r) y x (num q.has) (num q.lacks)
-  learn_lacks t q zb na h e is f =
-      let same : t ≡ a = eqb-true t a e in
+  learn_has t q za nb h same is =
+      rw is.lacks_is
+      (force_has za (subst (Highest b) same (h.highest (positive b nb))) (num q.has) (is.has_is ∙ ap (union y) same) (subst (Proper (num q.has)) is.lacks_is q.fair))
+
+  pub learn_lacks : (t : ℕ) (q : Partial) → b ≡ 0 → eqb a 0 ≡ false → HighestOrEmpty a t → t ≡ a → PartialIs q y (union x t)
+      → Grown (Holds l r) y x (num q.has) (num q.lacks)
+  learn_lacks t q zb na h same is =
       rw is.has_is
-      (force_lacks zb (subst (Highest a) same (h.highest (positive a na))) (subst (λ (z : ℕ). z < 2 ^ limit) same h.bounded) (num q.lacks) (is.lacks_is ∙ ap (union x) same) f)
+      (force_lacks zb (subst (Highest a) same (h.highest (positive a na))) (num q.lacks) (is.lacks_is ∙ ap (union x) same) (subst (λ (z : ℕ). Proper z (num q.lacks)) is.has_is q.fair))

@@ -1,22 +1,19 @@
 -- Laws of the search: where propagation ends, the two sides of a decision, and how their answers combine.
-use Rattle.std.proofs.Common.{◌≡◌, ℕ, suc, ◌+◌, ◌^◌, ◌<◌, ◌≤◌, max, Bool, true, false, sym, ap, ◌∙◌, subst, le_of_lt, arith}
+use Rattle.std.specs.Prelude.{Option, None, Some}
+use Rattle.std.proofs.Common.{◌≡◌, ℕ, suc, ◌+◌, ◌<◌, ◌≤◌, max, Bool, true, false, sym, ap, ◌∙◌, subst, le_of_lt, arith}
 use native.Mathlib.Decide.{dec_lt, ℕ_discrete}
-use lib.Bits.{or_lt}
-use lib.Pow.{pow-lt}
-use Rattle.atoms.specs.Sets.{bit_at, limit, union, minus, Highest}
+use Rattle.atoms.specs.Sets.{bit_at, limit, union, minus, meets, Highest}
 use Rattle.atoms.specs.Words.{num, every_atom}
 use Rattle.atoms.specs.declared.AtomSet.{AtomSet}
 use Rattle.atoms.proofs.Bits.{bit_le, bit_zero, bit_one, bit_other, bit_past, bit_top, bit_ext, bit_order, bits_le}
 use Rattle.atoms.proofs.Machine.{every_atom_lem, every_past}
 use Rattle.sat.specs.Table.{Within, Apart}
-use Rattle.sat.specs.Knowledge.{PartialIs, Extends, Fits, Fair, Grown}
+use Rattle.sat.specs.Knowledge.{PartialIs, Extends, Fits, Grown}
 use Rattle.sat.specs.Descent.{Model, Smallest, NoModel, Settles, no_limit, Spent, Answers, Pick, Cut, Told}
-use Rattle.sat.specs.declared.Answer.{Answer}
-use Rattle.sat.specs.declared.Answer.TheVariants.{Proved, Countered}
-use Rattle.sat.specs.declared.Partial.{Partial}
+use Rattle.sat.specs.declared.known.Partial.{Partial}
 use Rattle.sat.specs.declared.search.Found.{Found}
 use Rattle.sat.specs.declared.search.Found.TheVariants.{Least, Blocked, GaveUp}
-use Rattle.sat.proofs.Table.{union_bits, minus_bits}
+use Rattle.sat.proofs.Table.{union_bits, minus_bits, meets_of}
 
 module _ (P : ℕ → Type 0) where
   -- ---- where propagation ends
@@ -83,17 +80,15 @@ module _ (y x t : ℕ) (p : Pick y x t) where
   t_other : (i : ℕ) → (p.atom ≡ i → ⊥) → bit_at t i ≡ 0
   t_other i d = ap (λ (z : ℕ). bit_at z i) p.alone ∙ bit_other p.atom i d
 
-  t_below : t < 2 ^ limit
-  t_below = subst (λ (z : ℕ). z < 2 ^ limit) (sym p.alone) (pow-lt p.small)
-
   -- By cases: the atom, or another.
   by_atom : (Q : ℕ → Type 0) → Q p.atom → ((i : ℕ) → bit_at t i ≡ 0 → Q i) → (i : ℕ) → Q i
   by_atom Q a f i = elim (ℕ_discrete p.atom i) [ yes d ↦ subst Q d a | no d ↦ f i (t_other i d) ]
 
-  module _ (s s2 : ℕ) (e : s2 ≡ union s t) where
-    joined_below : s < 2 ^ limit → s2 < 2 ^ limit
-    joined_below l = subst (λ (z : ℕ). z < 2 ^ limit) (sym e) (or_lt limit s t l t_below)
+  -- It is not known.
+  pub pick_open : (s : ℕ) → bit_at s p.atom ≡ 0 → meets s t ≡ false
+  pick_open s z = meets_of s t (by_atom (λ i. bit_at s i + bit_at t i ≤ 1) (omega (arith, t_same)) (λ i o. omega (arith, o, bit_le s i)))
 
+  module _ (s s2 : ℕ) (e : s2 ≡ union s t) where
     joined_more : bit_at s p.atom ≡ 0 → s < s2
     joined_more z = bit_order p.atom s s2 (λ i l. omega (arith, union_bits s t s2 e i)) (omega (arith, union_bits s t s2 e p.atom, t_same))
 
@@ -127,15 +122,6 @@ module _ (P : ℕ → Type 0) (p q : Partial) (t : ℕ) (c : Cut P p q t) where
 
     q0_lacks : (i : ℕ) → bit_at (num q0.lacks) i ≡ max (bit_at (num q.lacks) i) (bit_at t i)
     q0_lacks = union_bits (num q.lacks) t (num q0.lacks) eq.lacks_is
-
-    pub false_fair : Fair q0
-    false_fair = record {
-      apart = λ i.
-          let apart = joined_apart _ _ t c.pick (num q.lacks) (num q0.lacks) eq.lacks_is (num q.has) c.pick.open_has (λ j. omega (arith, c.grown.proper.apart j)) i in
-          omega (arith, q0_has i);
-      has_below = subst (λ (z : ℕ). z < 2 ^ limit) (sym eq.has_is) c.grown.proper.has_below;
-      lacks_below = joined_below _ _ t c.pick (num q.lacks) (num q0.lacks) eq.lacks_is c.grown.proper.lacks_below;
-    }
 
     pub false_room : num p.has + num p.lacks < num q0.has + num q0.lacks
     false_room = omega (
@@ -199,13 +185,6 @@ module _ (P : ℕ → Type 0) (p q : Partial) (t : ℕ) (c : Cut P p q t) where
     q1_lacks : (i : ℕ) → bit_at (num q1.lacks) i ≡ bit_at (num q.lacks) i
     q1_lacks i = ap (λ (z : ℕ). bit_at z i) eq.lacks_is
 
-    pub true_fair : Fair q1
-    true_fair = record {
-      apart = λ i. omega (arith, q1_lacks i, joined_apart _ _ t c.pick (num q.has) (num q1.has) eq.has_is (num q.lacks) c.pick.open_lacks c.grown.proper.apart i);
-      has_below = joined_below _ _ t c.pick (num q.has) (num q1.has) eq.has_is c.grown.proper.has_below;
-      lacks_below = subst (λ (z : ℕ). z < 2 ^ limit) (sym eq.lacks_is) c.grown.proper.lacks_below;
-    }
-
     pub true_room : num p.has + num p.lacks < num q1.has + num q1.lacks
     true_room = omega (
       arith,
@@ -247,17 +226,17 @@ module _ (P Q : ℕ → Type 0) (to : (m : ℕ) → P m → Q m) (from : (m : �
   model_back : (y x m : ℕ) → Model Q y x m → Model P y x m
   model_back y x m w = record { below = w.below; extends = w.extends; holds = from m w.holds }
 
-  pub told_same : (p : Partial) (smallest : Bool) (a : Answer) → Told P p smallest a → Told Q p smallest a
-  told_same p smallest Proved w = λ m v. w m (model_back _ _ m v)
-  told_same p true (Countered s) w = record { member = model_same _ _ _ w.member; least = λ k v. w.least k (model_back _ _ k v) }
-  told_same p false (Countered s) w = model_same _ _ _ w
+  pub told_same : (p : Partial) (smallest : Bool) (a : Option AtomSet) → Told P p smallest a → Told Q p smallest a
+  told_same p smallest None w = λ m v. w m (model_back _ _ m v)
+  told_same p true (Some s) w = record { member = model_same _ _ _ w.member; least = λ k v. w.least k (model_back _ _ k v) }
+  told_same p false (Some s) w = model_same _ _ _ w
 
 module _ (P : ℕ → Type 0) (p : Partial) where
   -- The smallest model is one.
-  pub settles_told : (smallest : Bool) (a : Answer) → Settles P p a → Told P p smallest a
-  settles_told smallest Proved w = w
-  settles_told true (Countered s) w = w
-  settles_told false (Countered s) w = w.member
+  pub settles_told : (smallest : Bool) (a : Option AtomSet) → Settles P p a → Told P p smallest a
+  settles_told smallest None w = w
+  settles_told true (Some s) w = w
+  settles_told false (Some s) w = w.member
 
-  pub model_told : (smallest : Bool) → smallest ≡ false → (s : AtomSet) → Model P (num p.has) (num p.lacks) (num s) → Told P p smallest (Countered s)
-  model_told smallest e s w = subst (λ (b : Bool). Told P p b (Countered s)) (sym e) w
+  pub model_told : (smallest : Bool) → smallest ≡ false → (s : AtomSet) → Model P (num p.has) (num p.lacks) (num s) → Told P p smallest (Some s)
+  model_told smallest e s w = subst (λ (b : Bool). Told P p b (Some s)) (sym e) w

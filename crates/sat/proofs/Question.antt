@@ -1,5 +1,8 @@
 -- The search's answers are those of the definition: the models of what is given are the numbers that counter the question.
-use Rattle.std.proofs.Common.{◌≡◌, ℕ, ◌^◌, ◌<◌, ◌≤◌, min, true, false, not, T, List, sym, refl, ap, subst, lt_of_lt_of_le, arith, T_not, pow_mono}
+use Rattle.std.proofs.Common.{◌≡◌, ℕ, ◌^◌, ◌<◌, ◌≤◌, min, Bool, true, false, not, T, List, sym, refl, ap, subst, lt_of_lt_of_le, arith, T_not, pow_mono}
+use Rattle.std.specs.Prelude as std
+use Rattle.std.specs.Option.{is_some}
+use mathlib.Core.Bool.{false≢true}
 use mathlib.Core.Option.{Option, none, some}
 use native.Mathlib.Decide.{dec_lt, ℕ_discrete}
 use lib.Dec.{not_T}
@@ -13,13 +16,11 @@ use Rattle.ipl.specs.Question.{ask, Counters}
 use Rattle.ipl.specs.Search.{is_none}
 use Rattle.ipl.proofs.Question.{Answers, ask_right, ask_by}
 use Rattle.sat.specs.Table.{clauses, AllHold, Apart}
+use Rattle.atoms.specs.declared.AtomSet.{AtomSet}
 use Rattle.sat.specs.Answer.{answer_of}
-use Rattle.sat.specs.Knowledge.{Fair}
-use Rattle.sat.specs.Descent.{Base, Model, NoModel, Told}
-use Rattle.sat.specs.declared.Answer.{Answer}
-use Rattle.sat.specs.declared.Answer.TheVariants.{Proved, Countered}
-use Rattle.sat.specs.declared.Partial.{Partial}
-use Rattle.sat.proofs.Table.{union_bits, minus_bits, single_other, apart_of, all_hold_clauses}
+use Rattle.sat.specs.Descent.{Base, Model, Told}
+use Rattle.sat.specs.declared.known.Partial.{Partial}
+use Rattle.sat.proofs.Table.{union_bits, minus_bits, single_other, all_hold_clauses}
 use Rattle.sat.proofs.Knowledge.{clash}
 
 -- The question's n, given atoms and asked atom, with the set of what must be lacked.
@@ -75,29 +76,32 @@ module _ (left right : List ℕ) (count n given asked : ℕ) (p : Partial) (star
   start_counters m w = model_counters left right count n given asked (minus every_atom (below n)) (num p.lacks) refl start.lacks_is m
       (subst (λ (y : ℕ). Model (AllHold left right count) y (num p.lacks) m) start.has_is w)
 
-  pub settled : (a : Answer) → Told (AllHold left right count) p true a → answer_of a ≡ ask (min n limit) (clauses left right count) given asked
-  settled Proved f = sym (ask_by (min n limit) (clauses left right count) given asked none (λ m c. f m (counters_start m c)))
-  settled (Countered s) w =
+  pub settled : (a : std.Option AtomSet) → Told (AllHold left right count) p true a → answer_of a ≡ ask (min n limit) (clauses left right count) given asked
+  settled std.None f = sym (ask_by (min n limit) (clauses left right count) given asked none (λ m c. f m (counters_start m c)))
+  settled (std.Some s) w =
       sym (ask_by (min n limit) (clauses left right count) given asked (some (num s)) (start_counters (num s) w.member, λ k c. w.least k (counters_start k c)))
 
   -- Any model is enough for no.
-  pub decided : (a : Answer) → Told (AllHold left right count) p false a → is_none (answer_of a) ≡ is_none (ask (min n limit) (clauses left right count) given asked)
+  pub decided : (a : std.Option AtomSet) → Told (AllHold left right count) p false a → is_none (answer_of a) ≡ is_none (ask (min n limit) (clauses left right count) given asked)
   unfolding is_none
-  decided Proved f = ap is_none (settled Proved f)
-  decided (Countered s) w = go (ask (min n limit) (clauses left right count) given asked) (ask_right (min n limit) (clauses left right count) given asked)
+  decided std.None f = ap is_none (settled std.None f)
+  decided (std.Some s) w = go (ask (min n limit) (clauses left right count) given asked) (ask_right (min n limit) (clauses left right count) given asked)
     where
       go : (o : Option ℕ) → Answers (min n limit) (clauses left right count) given asked o → is_none (some (num s)) ≡ is_none o
       go none h = absurd (h (num s) (start_counters (num s) w))
       go (some k) h = refl
 
-module _ (n given asked : ℕ) (p : Partial) (start : Base n given asked p) where
-  -- What must be had and lacked at once has no model.
-  pub contrary : (P : ℕ → Type 0) → meets given (num p.lacks) ≡ true → NoModel P p
-  contrary P e m w = clash (num p.has) (num p.lacks) m (subst (λ (y : ℕ). T (meets y (num p.lacks))) (sym start.has_is) (true_T e)) w.extends
+-- The test of the code.
+pub no_model : (m : std.Option AtomSet) (r : Bool) → is_some m ≡ not r → r ≡ is_none (answer_of m)
+unfolding is_none
+no_model std.None true e = refl
+no_model std.None false e = absurd (false≢true e)
+no_model (std.Some s) true e = absurd (false≢true (sym e))
+no_model (std.Some s) false e = refl
 
-  pub start_fair : meets given (num p.lacks) ≡ false → given < 2 ^ limit → num p.lacks < 2 ^ limit → Fair p
-  start_fair e l k = record {
-    apart = rw start.has_is (apart_of given (num p.lacks) e);
-    has_below = rw start.has_is l;
-    lacks_below = k;
-  }
+-- What must be had and lacked at once is in no set that counters.
+pub contrary : (left right : List ℕ) (count n given asked : ℕ) → meets given (union (minus every_atom (below n)) (single_or_empty asked)) ≡ true
+    → none ≡ ask (min n limit) (clauses left right count) given asked
+contrary left right count n given asked e =
+    sym (ask_by (min n limit) (clauses left right count) given asked none (λ m c.
+    clash _ _ m (true_T e) (counters_model left right count n given asked _ _ refl refl m c).extends))

@@ -1,10 +1,14 @@
 -- Laws of tables that follow from a table, row by row.
-use Rattle.std.proofs.Common.{◌≡◌, ℕ, ◌+◌, ◌*◌, ◌<◌, ◌≤◌, List, sym, refl, ◌∙◌, le_refl, arith}
+use Rattle.std.proofs.Common.{◌≡◌, ℕ, ◌+◌, ◌*◌, ◌<◌, ◌≤◌, ◌↔◌, List, sym, refl, ◌∙◌, subst, le_refl, arith}
 use native.Mathlib.Decide.{ℕ_discrete}
 use Rattle.atoms.specs.Words.{row_of, row_count, RowSet, RowsSet}
 use Rattle.atoms.proofs.Machine.{same_rows, rows_first}
+use Rattle.sat.specs.Rows.{EachHolds}
 use Rattle.sat.specs.Table.{Holds, AllHold}
-use Rattle.sat.specs.Learning.{Follow, Longer, Moved, Kept, Filled}
+use Rattle.sat.specs.Learning.{Follow, Longer, Moved, Kept, Filled, FilledBy, Explored, Learned}
+use Rattle.sat.specs.declared.clauses.Clauses.{Clauses}
+use Rattle.sat.specs.declared.learning.End.{End}
+use Rattle.sat.specs.declared.learning.table.Table.{Table}
 
 -- ---- tables that follow
 
@@ -77,6 +81,30 @@ module _ (left right : List ℕ) (total : ℕ) (left2 right2 : List ℕ) (total2
 
   pub longer_later : (own : ℕ) (left0 right0 : List ℕ) (total0 : ℕ) → Longer own left0 right0 total0 left right total → Longer own left0 right0 total0 left2 right2 total2
   longer_later own left0 right0 total0 f = longer_trans own left0 right0 left right left2 right2 total0 total total2 f (longer_less own f.enough)
+
+-- ---- the same of tables as values
+
+pub explored_trans : (t t1 t2 : Table) (e e2 : End) → Explored t t1 e → Explored t1 t2 e2 → Explored t t2 e2
+explored_trans t t1 t2 e e2 f g = record {
+  longer = longer_later _ _ _ _ _ _ g.longer _ _ _ _ f.longer;
+  same_own = g.same_own ∙ f.same_own;
+  end_follows = g.end_follows;
+}
+
+pub explored_learned : (t t1 t2 : Table) (e : End) → Explored t t1 e → Learned t1 t2 → Learned t t2
+explored_learned t t1 t2 e f g =
+    let l : Longer t.own t1.left t1.right t1.total t2.left t2.right t2.total =
+    subst (λ (o : ℕ). Longer o t1.left t1.right t1.total t2.left t2.right t2.total) f.same_own g.longer in
+    record { longer = longer_trans _ _ _ _ _ _ _ _ _ _ (longer_less _ _ _ _ _ _ f.longer t.own t.enough) l; same_own = g.same_own ∙ f.same_own }
+
+pub learned_same : (t t2 : Table) → t2 ≡ t → Learned t t2
+learned_same t t2 e = subst (Learned t) (sym e) (record { longer = longer_same _ _ _ _ t.enough _ refl; same_own = refl })
+
+pub learned_trans : (t t1 t2 : Table) → Learned t t1 → Learned t1 t2 → Learned t t2
+learned_trans t t1 t2 f g =
+    let l : Longer t.own t1.left t1.right t1.total t2.left t2.right t2.total =
+    subst (λ (o : ℕ). Longer o t1.left t1.right t1.total t2.left t2.right t2.total) f.same_own g.longer in
+    record { longer = longer_trans _ _ _ _ _ _ _ _ _ _ f.longer l; same_own = g.same_own ∙ f.same_own }
 
 -- ---- rows moved down
 
@@ -183,3 +211,22 @@ module _ (left right : List ℕ) (count : ℕ) (kept : List ℕ) (k : ℕ) where
     pub filled_from : Follow left2 right2 total2 left right count
     filled_from = rows_same left2 right2 left right count total2 g.enough
         (λ i l. sym (g.own_left i l ∙ w.own_left e i l)) (λ i l. sym (g.own_right i l ∙ w.own_right e i l))
+
+-- ---- a table filled and then learned from
+
+module _ (t : Clauses) (kept : List ℕ) (k : ℕ) (long long2 : Table) (w : FilledBy t kept k long) (g : Learned long long2) where
+  begun : t.count ≤ long.total
+  begun = omega (arith, w.same_own, long.enough)
+
+  grown : Longer t.count long.left long.right long.total long2.left long2.right long2.total
+  grown = subst (λ (o : ℕ). Longer o long.left long.right long.total long2.left long2.right long2.total) w.same_own g.longer
+
+  pub longer_to : Kept t.left.now t.right.now t.count kept k → Follow t.left.now t.right.now t.count long2.left long2.right long2.total
+  longer_to = filled_to _ _ _ _ _ _ _ _ _ _ _ w.filled begun grown
+
+  pub longer_from : Follow long2.left long2.right long2.total t.left.now t.right.now t.count
+  longer_from = filled_from _ _ _ _ _ _ _ _ _ _ _ w.filled begun grown
+
+-- Its rows as a table lent.
+pub seen : (t : Table) (r : Clauses) → r.left.now ≡ t.left → r.right.now ≡ t.right → r.count ≡ t.total → (m : ℕ) → EachHolds r m ↔ AllHold t.left t.right t.total m
+seen t r a b n m = (λ h. rw (← a, ← b, ← n) h, λ h. rw (a, b, n) h)

@@ -43,6 +43,16 @@ apart_of a b e i = elim (dec_le (bit_at a i + bit_at b i) 1) [
   | no k ↦ absurd (false_T e (Meets_meets a b (i, omega (arith, bit_le a i, bit_le b i), omega (arith, bit_le a i, bit_le b i))))
 ]
 
+pub meets_of : (a b : ℕ) → Apart a b → meets a b ≡ false
+meets_of a b f = T_false (meets a b) (λ t. let w = meets_Meets a b t in omega (arith, w.1, w.2, f w.0))
+
+-- What is apart from a union is apart from both; and a union from what both are.
+pub union_apart : (a b c u : ℕ) → u ≡ union a b → Apart u c → Apart a c × Apart b c
+union_apart a b c u e f = (λ i. omega (arith, union_bits a b u e i, f i), λ i. omega (arith, union_bits a b u e i, f i))
+
+pub apart_union : (a b c u : ℕ) → u ≡ union a b → Apart a c → Apart b c → Apart u c
+apart_union a b c u e f g i = omega (arith, union_bits a b u e i, f i, g i)
+
 -- ---- passing over rows
 
 module _ (Q : ℕ → Type 0) where
@@ -57,6 +67,9 @@ module _ (Q : ℕ → Type 0) where
       | no m ↦ let e : i ≡ k = omega arith in subst Q e q
     ];
   }
+
+  pub passed_each : (R : ℕ → Type 0) → ((i : ℕ) → Q i → R i) → (from r : ℕ) → Passed Q from r → Passed R from r
+  passed_each R f from r w = record { after = w.after; passed = λ i h l. f i (w.passed i h l) }
 
 -- ---- one clause more
 

@@ -1,11 +1,10 @@
 -- The search: what its answers say. P is what is asked of a model, p what is known of it.
-use Rattle.std.specs.Prelude.{◌≡◌, ℕ, ◌+◌, ◌-◌, ◌^◌, ◌<◌, ◌≤◌, Bool, true, false}
+use Rattle.std.specs.Prelude.{◌≡◌, ℕ, ◌+◌, ◌-◌, ◌^◌, ◌<◌, ◌≤◌, Bool, true, false, Option, None, Some}
 use Rattle.atoms.specs.Sets.{bit_at, limit, union, minus}
 use Rattle.atoms.specs.Words.{num, every_atom, single_or_empty, below}
 use Rattle.sat.specs.Knowledge.{PartialIs, Extends, Grown}
-use Rattle.sat.specs.declared.Answer.{Answer}
-use Rattle.sat.specs.declared.Answer.TheVariants.{Proved, Countered}
-use Rattle.sat.specs.declared.Partial.{Partial}
+use Rattle.atoms.specs.declared.AtomSet.{AtomSet}
+use Rattle.sat.specs.declared.known.Partial.{Partial}
 use Rattle.sat.specs.declared.search.Found.{Found}
 use Rattle.sat.specs.declared.search.Found.TheVariants.{Least, Blocked, GaveUp}
 use Rattle.sat.specs.declared.search.Step.{Step}
@@ -30,15 +29,15 @@ abbrev pub NoModel : (ℕ → Type 0) → Partial → Type 0
 NoModel P p = (m : ℕ) → Model P (num p.has) (num p.lacks) m → ⊥
 
 -- The smallest model of what is known, or that there is none.
-abbrev pub Settles : (ℕ → Type 0) → Partial → Answer → Type 0
-Settles P p (Countered s) = Smallest P (num p.has) (num p.lacks) (num s)
-Settles P p Proved = NoModel P p
+abbrev pub Settles : (ℕ → Type 0) → Partial → Option AtomSet → Type 0
+Settles P p (Some s) = Smallest P (num p.has) (num p.lacks) (num s)
+Settles P p None = NoModel P p
 
 -- The same, where a model that is not the smallest may be enough.
-abbrev pub Told : (ℕ → Type 0) → Partial → Bool → Answer → Type 0
-Told P p smallest Proved = NoModel P p
-Told P p true (Countered s) = Smallest P (num p.has) (num p.lacks) (num s)
-Told P p false (Countered s) = Model P (num p.has) (num p.lacks) (num s)
+abbrev pub Told : (ℕ → Type 0) → Partial → Bool → Option AtomSet → Type 0
+Told P p smallest None = NoModel P p
+Told P p true (Some s) = Smallest P (num p.has) (num p.lacks) (num s)
+Told P p false (Some s) = Model P (num p.has) (num p.lacks) (num s)
 
 -- The number of conflicts that is never used up.
 abbrev pub no_limit : ℕ
@@ -52,7 +51,7 @@ Spent c GaveUp = c ≡ no_limit → ⊥
 
 -- The same with at most c conflicts.
 abbrev pub Answers : (ℕ → Type 0) → Partial → ℕ → Found → Type 0
-Answers P p c (Least s) = Settles P p (Countered s)
+Answers P p c (Least s) = Settles P p (Some s)
 Answers P p c (Blocked r) = NoModel P p × Spent c (Blocked r)
 Answers P p c GaveUp = Spent c GaveUp
 
@@ -70,7 +69,7 @@ pub record Cut (P : ℕ → Type 0) (p q : Partial) (t : ℕ) : Type 0 where
   pub grown : Grown P (num p.has) (num p.lacks) (num q.has) (num q.lacks)
   pub pick : Pick (num q.has) (num q.lacks) t
 
-abbrev pub Steps : (ℕ → Type 0) → Partial → Step → Type 0
-Steps P p (step.Least s) = Settles P p (Countered s)
-Steps P p step.Blocked = NoModel P p
-Steps P p (step.Split q t) = Cut P p q (num t)
+abbrev pub Steps : (ℕ → Type 0) → Partial → Option Step → Type 0
+Steps P p (Some (step.Least s)) = Settles P p (Some s)
+Steps P p None = NoModel P p
+Steps P p (Some (step.Split q t)) = Cut P p q (num t)

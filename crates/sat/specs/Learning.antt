@@ -3,12 +3,15 @@ use Rattle.std.specs.Prelude.{◌≡◌, ℕ, ◌+◌, ◌*◌, ◌<◌, ◌≤�
 use Rattle.atoms.specs.Words.{num, row_of, row_count}
 use Rattle.sat.specs.Table.{Holds, AllHold}
 use Rattle.sat.specs.Descent.{Told}
+use Rattle.sat.specs.Rows.{EachHolds}
 use Rattle.sat.specs.declared.Asked.{Asked}
-use Rattle.sat.specs.declared.Partial.{Partial}
+use Rattle.sat.specs.declared.clauses.Clause.{Clause}
+use Rattle.sat.specs.declared.clauses.Clauses.{Clauses}
+use Rattle.sat.specs.declared.known.Partial.{Partial}
 use Rattle.sat.specs.declared.learning.End.{End}
-use Rattle.sat.specs.declared.learning.End.TheVariants.{Conflict, Learned, Model, Full}
-use Rattle.sat.specs.declared.learning.Outcome.{Outcome}
-use Rattle.sat.specs.declared.learning.resolution.Clause.{Clause}
+use Rattle.sat.specs.declared.learning.End.TheVariants as end
+use Rattle.sat.specs.declared.learning.End.TheVariants.{Conflict, Model, Full}
+use Rattle.sat.specs.declared.learning.table.Table.{Table}
 
 -- A clause in hand is true at m.
 abbrev pub ClauseHolds : Clause → ℕ → Type 0
@@ -29,16 +32,27 @@ pub record Longer (own : ℕ) (left right : List ℕ) (total : ℕ) (left2 right
   pub enough : own ≤ total2
   pub follows : Follow left right total left2 right2 total2
 
+-- A clause follows from the rows of a table.
+abbrev pub Follows : Table → Clause → Type 0
+Follows t k = ClauseFollows t.left t.right t.total k
+
 -- A conflict that exploring ends with follows from the rows.
-abbrev pub EndFollows : List ℕ → List ℕ → ℕ → End → Type 0
-EndFollows left right total (Conflict k) = ClauseFollows left right total k
-EndFollows left right total (Learned c) = Unit {0}
-EndFollows left right total (Model m) = Unit {0}
-EndFollows left right total Full = Unit {0}
+abbrev pub EndFollows : Table → End → Type 0
+EndFollows t (Conflict k) = Follows t k.clause
+EndFollows t (end.Learned c) = Unit {0}
+EndFollows t (Model m) = Unit {0}
+EndFollows t Full = Unit {0}
 
 -- All rows stay, those behind them follow, and so does a conflict at the end.
-abbrev pub Explored : List ℕ → List ℕ → ℕ → List ℕ → List ℕ → Outcome → Type 0
-Explored left right total left2 right2 r = Longer total left right total left2 right2 r.total × EndFollows left2 right2 r.total r.end
+pub record Explored (t t2 : Table) (e : End) : Type 0 where
+  pub longer : Longer t.total t.left t.right t.total t2.left t2.right t2.total
+  pub same_own : t2.own ≡ t.own
+  pub end_follows : EndFollows t2 e
+
+-- The rows of the question stay, and those behind them follow.
+pub record Learned (t t2 : Table) : Type 0 where
+  pub longer : Longer t.own t.left t.right t.total t2.left t2.right t2.total
+  pub same_own : t2.own ≡ t.own
 
 -- The first k rows kept in one table, the left and the right side of each in turn, are true at m.
 abbrev pub KeptHold : List ℕ → ℕ → ℕ → Type 0
@@ -67,12 +81,18 @@ pub record Moved (own : ℕ) (left right : List ℕ) (total : ℕ) (left2 right2
   pub follow : Follow left right total left2 right2 to
 
 -- Row c is passed, whatever table was begun with.
-abbrev pub Passes : List ℕ → List ℕ → ℕ → ℕ → ℕ → List ℕ → List ℕ → ℕ → Type 0
-Passes left right total to c left2 right2 to2 =
-    (own : ℕ) (left0 right0 : List ℕ) → total ≤ row_count left0 → total ≤ row_count right0 → Moved own left0 right0 total left right to c
-    → Moved own left0 right0 total left2 right2 to2 (c + 1)
+pub record Passes (t t2 : Table) (to c to2 : ℕ) : Type 0 where
+  pub same_own : t2.own ≡ t.own
+  pub same_total : t2.total ≡ t.total
+  pub moved : (own : ℕ) (left right : List ℕ) → t.total ≤ row_count left → t.total ≤ row_count right → Moved own left right t.total t.left t.right to c
+      → Moved own left right t.total t2.left t2.right to2 (c + 1)
+
+-- The table stands first in the longer one, and behind it rows kept.
+pub record FilledBy (t : Clauses) (kept : List ℕ) (k : ℕ) (long : Table) : Type 0 where
+  pub filled : Filled t.left.now t.right.now t.count kept k long.left long.right long.total
+  pub same_own : long.own ≡ t.count
 
 -- Where the rows kept follow from the table, the answer is right, and the rows then kept follow too.
-abbrev pub ToldKeeping : List ℕ → List ℕ → ℕ → Partial → Bool → List ℕ → ℕ → List ℕ → Asked → Type 0
-ToldKeeping left right count p smallest kept k kept2 r =
-    Kept left right count kept k → Told (AllHold left right count) p smallest r.answer × Kept left right count kept2 r.kept
+abbrev pub ToldKeeping : Clauses → Partial → Bool → List ℕ → ℕ → List ℕ → Asked → Type 0
+ToldKeeping t p smallest kept k kept2 r =
+    Kept t.left.now t.right.now t.count kept k → Told (EachHolds t) p smallest r.answer × Kept t.left.now t.right.now t.count kept2 r.kept

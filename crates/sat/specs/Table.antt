@@ -1,6 +1,6 @@
 -- A table of clauses, lent as two columns of sets.
-use Rattle.std.specs.Prelude.{◌≡◌, ℕ, zero, suc, ◌+◌, ◌<◌, ◌≤◌, Bool, true, ◌&&◌, List}
-use Rattle.atoms.specs.Sets.{bit_at}
+use Rattle.std.specs.Prelude.{◌≡◌, ℕ, zero, suc, ◌+◌, ◌^◌, ◌<◌, ◌≤◌, Bool, true, ◌&&◌, List}
+use Rattle.atoms.specs.Sets.{bit_at, limit}
 use Rattle.atoms.specs.Words.{row_of}
 use Rattle.ipl.specs.Clause.{Flat, satisfies}
 use Rattle.ipl.specs.Lists.{tabulate}
@@ -41,6 +41,8 @@ pub record Passed (Q : ℕ → Type 0) (from r : ℕ) : Type 0 where
   pub after : from ≤ r
   pub passed : (i : ℕ) → from ≤ i → i < r → Q i
 
--- Each clause from `from` on and before r is true at m.
-abbrev pub PassedHolding : List ℕ → List ℕ → ℕ → ℕ → ℕ → Type 0
-PassedHolding left right m = Passed (λ i. Holds (row_of left i) (row_of right i) m)
+-- No atom is in both, and both sets are bounded.
+pub record Proper (y x : ℕ) : Type 0 where
+  pub apart : Apart y x
+  pub has_below : y < 2 ^ limit
+  pub lacks_below : x < 2 ^ limit

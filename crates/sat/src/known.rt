@@ -1,50 +1,50 @@
-// Partial knowledge of a model, with one atom more.
-ghost use Rattle.std.specs.Prelude.{◌≡◌};
-ghost use Rattle.atoms.specs.Sets.{union};
+// Partial knowledge of a model.
 ghost use Rattle.atoms.specs.Words.{num};
-ghost use Rattle.sat.specs.Knowledge.{PartialIs, same_partial};
+ghost use Rattle.sat.specs.Table.{Proper};
 
-use super::Partial;
 use atoms::AtomSet;
 
-pub fn having(p: Partial, x: AtomSet) -> Partial
-    ensures { PartialIs result (union (num p.has) (num x)) (num p.lacks) }
-{
-    let has = p.has;
-    let lacks = p.lacks;
-    Partial {
-        has: has.join(x),
-        lacks,
+// What is known of a model: atoms that it has, and atoms that it lacks; none is both.
+#[derive(Clone, Copy, PartialEq, Eq)]
+pub struct Partial {
+    pub has: AtomSet,
+    pub lacks: AtomSet,
+    pub ghost fair: { Proper (num has) (num lacks) },
+}
+
+impl Partial {
+    ghost use Rattle.std.specs.Prelude.{false, ◌≡◌};
+    ghost use Rattle.atoms.specs.Sets.{union, meets};
+    ghost use Rattle.sat.specs.Knowledge.{PartialIs};
+
+    // With atoms more that are had, none of which is lacked.
+    pub fn having(self, x: AtomSet) -> Self
+        requires { meets (num self.lacks) (num x) ≡ false }
+        ensures { PartialIs result (union (num self.has) (num x)) (num self.lacks) }
+    {
+        x.bounded();
+        Partial {
+            has: self.has.join(x),
+            lacks: self.lacks,
+        }
     }
-}
 
-pub fn lacking(p: Partial, x: AtomSet) -> Partial
-    ensures { PartialIs result (num p.has) (union (num p.lacks) (num x)) }
-{
-    let has = p.has;
-    let lacks = p.lacks;
-    Partial {
-        has,
-        lacks: lacks.join(x),
+    // With atoms more that are lacked, none of which is had.
+    pub fn lacking(self, x: AtomSet) -> Self
+        requires { meets (num self.has) (num x) ≡ false }
+        ensures { PartialIs result (num self.has) (union (num self.lacks) (num x)) }
+    {
+        x.bounded();
+        Partial {
+            has: self.has,
+            lacks: self.lacks.join(x),
+        }
     }
-}
 
-// The atoms that p speaks of.
-pub fn atoms(p: Partial) -> AtomSet
-    ensures { num result ≡ union (num p.has) (num p.lacks) }
-{
-    let has = p.has;
-    has.join(p.lacks)
-}
-
-pub fn same(p: Partial, q: Partial) -> bool
-    ensures { result ≡ same_partial p q }
-{
-    let has = p.has;
-    if has.same(q.has) {
-        let lacks = p.lacks;
-        lacks.same(q.lacks)
-    } else {
-        false
+    // The atoms that it speaks of.
+    pub fn atoms(self) -> AtomSet
+        ensures { num result ≡ union (num self.has) (num self.lacks) }
+    {
+        self.has.join(self.lacks)
     }
 }

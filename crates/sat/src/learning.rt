@@ -1,19 +1,21 @@
 // The second stage of a question: rows that follow from a table by resolution are put behind it, until the search over the longer
 // table ends at once. It answers nothing: that the rows follow is proved; which they are is free, and only time depends on it.
-ghost use Rattle.std.specs.Prelude.{◌≡◌, ◌≤◌};
-ghost use Rattle.sat.specs.Learning.{ClauseFollows, EndFollows, Explored, Longer};
+ghost use Rattle.sat.specs.Learning.{Follows, EndFollows, Explored, Learned};
 
-use super::{Partial, known};
+use super::clauses::Clause;
+use super::known::Partial;
 use atoms::AtomSet;
 
 mod activity;
 mod notes;
 mod resolution;
 mod room;
+pub mod table;
 mod watching;
 
 use notes::NOTES;
-use resolution::Clause;
+use resolution::Resolvent;
+use table::Table;
 use watching::Walk;
 
 // Rows of the longer table: all clauses known, and the learned ones.
@@ -29,41 +31,29 @@ const STARTS: u64 = 1 << 20;
 // room.
 #[derive(Clone, Copy)]
 enum End {
-    Conflict(Clause),
+    Conflict(Resolvent),
     Learned(usize),
     Model(AtomSet),
     Full,
 }
 
-// The end, and the number of rows.
+// Where the learning stands: the model met last, the atom from which on all are decided in falling order, and whether it is over.
 #[derive(Clone, Copy)]
-struct Outcome {
-    total: usize,
-    end: End,
-}
-
-// Where the learning stands: the number of rows, the model met last, the atom from which on all are decided in falling order, and
-// whether it is over.
-#[derive(Clone, Copy)]
-pub struct Stage {
-    pub total: usize,
-    pub model: AtomSet,
+struct Stage {
+    model: AtomSet,
     ordered: u8,
     over: bool,
 }
 
-// Assigns the open atom of row k, or none where it fails.
+// Assigns the open atom of a row, or none where it fails.
 fn force(notes: &mut [u16], v: Walk, k: Clause) -> Walk {
-    let open = resolution::open(k, v.known);
-    let left = k.left;
-    let atom = open.highest_number();
-    watching::assigned(notes, v, atom, !left.has(atom))
+    let atom = k.open(v.known).atoms().highest_number();
+    watching::assigned(notes, v, atom, !k.left.has(atom))
 }
 
 // Decides an open atom, false: the highest one where it is to be in order, else the busiest; none where all are known.
 fn decide(notes: &mut [u16], v: Walk, ordered: u8) -> Walk {
-    let known = v.known;
-    let spoken = known::atoms(known);
+    let spoken = v.known.atoms();
     let open = spoken.complement();
     let highest = open.highest_number();
     let atom = if ordered <= highest {
@@ -71,101 +61,89 @@ fn decide(notes: &mut [u16], v: Walk, ordered: u8) -> Walk {
     } else {
         activity::busiest(notes, open)
     };
-    let mut to = v;
-    to.before = spoken;
+    let to = Walk {
+        before: spoken,
+        ..v
+    };
     watching::assigned(notes, to, atom, false)
 }
 
 // The next atom is assigned: a row forces it, or it is decided.
-fn next<'a>(left: &'a [u64], right: &'a [u64], notes: &mut [u16], w: Walk, ordered: u8) -> Walk {
-    let v = watching::advance(left, right, notes, w);
+fn next(t: &Table, notes: &mut [u16], w: Walk, ordered: u8) -> Walk {
+    let v = watching::advance(t, notes, w);
     if v.row < ROWS {
-        return force(notes, v, resolution::row(left, right, v.row));
+        return force(notes, v, t.row(v.row));
     }
     decide(notes, v, ordered)
 }
 
 // How exploring ends where no atom could be assigned.
-fn ended<'a>(left: &'a [u64], right: &'a [u64], total: usize, v: Walk) -> End
-    ensures { EndFollows left.now right.now total result }
+fn ended(t: &Table, v: Walk) -> End
+    ensures { EndFollows t.now result }
 {
-    if v.row < total {
-        return End::Conflict(resolution::row(left, right, v.row));
+    if v.row < t.total {
+        let clause = t.row(v.row);
+        return End::Conflict(Resolvent {
+            clause,
+            met: clause.atoms(),
+        });
     }
-    let known = v.known;
-    let has = known.has;
-    End::Model(has)
+    End::Model(v.known.has)
 }
 
 // Writes a clause that follows as a further row, where there is room.
-fn add(left: &mut [u64], right: &mut [u64], total: usize, k: Clause) -> Outcome
-    requires { ClauseFollows left.old right.old total k }
-    ensures { Explored left.old right.old total left.new right.new result }
+fn add(t: &mut Table, k: Clause) -> End
+    requires { Follows t.old k }
+    ensures { Explored t.old t.new result }
 {
-    if atoms::rows(left) <= total {
-        return Outcome {
-            total,
-            end: End::Full,
-        };
+    let row = t.total;
+    if atoms::rows(&t.left) <= row {
+        return End::Full;
     }
-    if atoms::rows(right) <= total {
-        return Outcome {
-            total,
-            end: End::Full,
-        };
+    if atoms::rows(&t.right) <= row {
+        return End::Full;
     }
-    atoms::set_row(left, total, k.left);
-    atoms::set_row(right, total, k.right);
-    Outcome {
-        total: total + 1,
-        end: End::Learned(total),
-    }
+    atoms::set_row(&mut t.left, row, k.left);
+    atoms::set_row(&mut t.right, row, k.right);
+    t.total = row + 1;
+    End::Learned(row)
 }
 
 // Learns a clause that follows.
-fn learn_clause(
-    left: &mut [u64],
-    right: &mut [u64],
-    notes: &mut [u16],
-    total: usize,
-    k: Clause,
-) -> Outcome
-    requires { ClauseFollows left.old right.old total k }
-    ensures { Explored left.old right.old total left.new right.new result }
+fn learn_clause(t: &mut Table, notes: &mut [u16], k: Resolvent) -> End
+    requires { Follows t.old k.clause }
+    ensures { Explored t.old t.new result }
 {
-    let s = resolution::shorter(left, right, notes, total, k);
-    activity::tell(notes, s.met, total);
-    add(left, right, total, s)
+    let s = resolution::shorter(t, notes, k);
+    activity::tell(notes, s.met, t.total);
+    add(t, s.clause)
 }
 
 // Goes back over an assignment: a conflict is learned where it has one atom of the last level, else resolved with the row that forced the
 // atom; any other end stays.
-fn go_back(left: &mut [u64], right: &mut [u64], notes: &mut [u16], v: Walk, r: Outcome) -> Outcome
-    requires { EndFollows left.old right.old r.total r.end }
-    ensures { Explored left.old right.old r.total left.new right.new result }
+fn go_back(t: &mut Table, notes: &mut [u16], v: Walk, end: End) -> End
+    requires { EndFollows t.old end }
+    ensures { Explored t.old t.new result }
 {
-    let total = r.total;
-    let end = r.end;
     match end {
         End::Conflict(k) => {
-            let level = resolution::atoms_of(k).without(v.before);
+            let level = k.clause.atoms().without(v.before);
             if resolution::is_single(level) {
-                return learn_clause(left, right, notes, total, k);
+                return learn_clause(t, notes, k);
             }
-            let end = End::Conflict(resolution::resolved_by(left, right, total, k, v.row, v.atom));
-            Outcome { total, end }
+            End::Conflict(resolution::resolved_by(t, k, v.row, v.atom))
         }
-        _ => r,
+        _ => end,
     }
 }
 
 // What a row just learned forces from w on: an atom, where it is its only open one, and was not so before the last decision.
-fn follow<'a>(left: &'a [u64], right: &'a [u64], notes: &mut [u16], w: Walk, end: End) -> Walk {
+fn follow(t: &Table, notes: &mut [u16], w: Walk, end: End) -> Walk {
     match end {
         End::Learned(c) => {
-            let k = resolution::row(left, right, c);
-            let open = resolution::open(k, w.known);
-            let late = resolution::atoms_of(k).without(open).without(w.before);
+            let k = t.row(c);
+            let open = k.open(w.known).atoms();
+            let late = k.atoms().without(open).without(w.before);
             if late.is_empty() {
                 return watching::stopped(w);
             }
@@ -179,198 +157,104 @@ fn follow<'a>(left: &'a [u64], right: &'a [u64], notes: &mut [u16], w: Walk, end
 
 // Explores what is known, each assignment in a call of its own: a conflict goes back through them, and what it teaches is learned.
 #[cycle(explore_explore_under)]
-fn explore(
-    left: &mut [u64],
-    right: &mut [u64],
-    notes: &mut [u16],
-    total: usize,
-    w: Walk,
-    ordered: u8,
-    depth: u8,
-) -> Outcome
-    ensures { Explored left.old right.old total left.new right.new result }
+fn explore(t: &mut Table, notes: &mut [u16], w: Walk, ordered: u8, depth: u8) -> End
+    ensures { Explored t.old t.new result }
 {
     if depth == 0 {
-        return Outcome {
-            total,
-            end: End::Full,
-        };
+        return End::Full;
     }
     let less = depth - 1;
-    let v = next(left, right, notes, w, ordered);
+    let v = next(t, notes, w, ordered);
     if atoms::LIMIT <= v.atom {
-        return Outcome {
-            total,
-            end: ended(left, right, total, v),
-        };
+        return ended(t, v);
     }
-    let first = explore_under(left, right, notes, total, v, ordered, less);
-    let end = first.end;
-    let u = follow(left, right, notes, w, end);
+    let first = explore_under(t, notes, v, ordered, less);
+    let u = follow(t, notes, w, first);
     if atoms::LIMIT <= u.atom {
         return first;
     }
-    explore_under(left, right, notes, first.total, u, ordered, less)
+    explore_under(t, notes, u, ordered, less)
 }
 
 // Explores under an assignment, and goes back over it.
 #[cycle(explore_explore_under)]
-fn explore_under(
-    left: &mut [u64],
-    right: &mut [u64],
-    notes: &mut [u16],
-    total: usize,
-    v: Walk,
-    ordered: u8,
-    depth: u8,
-) -> Outcome
-    ensures { Explored left.old right.old total left.new right.new result }
+fn explore_under(t: &mut Table, notes: &mut [u16], v: Walk, ordered: u8, depth: u8) -> End
+    ensures { Explored t.old t.new result }
 {
-    let r = explore(left, right, notes, total, v, ordered, depth);
-    go_back(left, right, notes, v, r)
+    let end = explore(t, notes, v, ordered, depth);
+    go_back(t, notes, v, end)
 }
 
 // Drops rows.
-fn make_room(
-    left: &mut [u64],
-    right: &mut [u64],
-    own: usize,
-    notes: &mut [u16],
-    total: usize,
-    base: Partial,
-) -> usize
-    requires { own ≤ total }
-    ensures { Longer own left.old right.old total left.new right.new result }
+fn make_room(t: &mut Table, notes: &mut [u16], base: Partial)
+    ensures { Learned t.old t.new }
 {
-    let fewer = room::shorten(left, right, own, total);
-    watching::enter_all(left, right, fewer, notes, base);
-    fewer
+    room::shorten(t);
+    watching::enter_all(t, notes, base);
 }
 
-// Does to the rows what the end of exploring asks for; their number is the result.
-fn close(
-    left: &mut [u64],
-    right: &mut [u64],
-    own: usize,
-    notes: &mut [u16],
-    base: Partial,
-    r: Outcome,
-) -> usize
-    requires { (own ≤ r.total) × EndFollows left.old right.old r.total r.end }
-    ensures { Longer own left.old right.old r.total left.new right.new result }
+// Does to the rows what the end of exploring asks for.
+fn close(t: &mut Table, notes: &mut [u16], base: Partial, end: End)
+    requires { EndFollows t.old end }
+    ensures { Learned t.old t.new }
 {
-    let end = r.end;
     match end {
         End::Conflict(k) => {
-            let o = add(left, right, r.total, k);
-            o.total
+            add(t, k.clause);
         }
-        End::Learned(c) => {
-            watching::enter(left, right, notes, base, c);
-            r.total
-        }
-        End::Full => make_room(left, right, own, notes, r.total, base),
-        _ => r.total,
+        End::Learned(c) => watching::enter(t, notes, base, c),
+        End::Full => make_room(t, notes, base),
+        End::Model(_) => {}
     }
 }
 
 // Where the learning stands after exploring: over at a conflict, and at a model; where the smallest is wanted, one atom more of the model
 // is to be decided in order.
-fn staged(s: Stage, end: End, total: usize, given: AtomSet, smallest: bool) -> Stage
-    ensures { result.total ≡ total }
-{
-    let mut next = s;
-    next.total = total;
+fn staged(s: Stage, end: End, total: usize, given: AtomSet, smallest: bool) -> Stage {
     match end {
-        End::Conflict(_) => {
-            next.over = true;
-        }
+        End::Conflict(_) => Stage { over: true, ..s },
         End::Model(m) => {
             let below = m.common(AtomSet::below(s.ordered)).without(given);
-            next.model = m;
-            next.ordered = below.highest_number();
-            next.over = if smallest { below.is_empty() } else { true };
+            Stage {
+                model: m,
+                ordered: below.highest_number(),
+                over: !smallest || below.is_empty(),
+            }
         }
-        End::Full => {
-            next.over = ROWS <= total;
-        }
-        _ => {}
+        End::Full => Stage {
+            over: ROWS <= total,
+            ..s
+        },
+        End::Learned(_) => s,
     }
-    next
 }
 
 // Explores from the start.
-fn start(
-    left: &mut [u64],
-    right: &mut [u64],
-    own: usize,
-    notes: &mut [u16],
-    base: Partial,
-    smallest: bool,
-    s: Stage,
-) -> Stage
-    requires { own ≤ s.total }
-    ensures { Longer own left.old right.old s.total left.new right.new result.total }
+fn start(t: &mut Table, notes: &mut [u16], base: Partial, smallest: bool, s: Stage) -> Stage
+    ensures { Learned t.old t.new }
 {
-    let r = explore(
-        left,
-        right,
-        notes,
-        s.total,
-        watching::origin(base),
-        s.ordered,
-        DEEPEST,
-    );
-    let end = r.end;
-    let total = close(left, right, own, notes, base, r);
-    staged(s, end, total, base.has, smallest)
+    let end = explore(t, notes, watching::origin(base), s.ordered, DEEPEST);
+    close(t, notes, base, end);
+    staged(s, end, t.total, base.has, smallest)
 }
 
-// Starts, until it is over or they are used up.
-fn starts(
-    left: &mut [u64],
-    right: &mut [u64],
-    own: usize,
-    notes: &mut [u16],
-    base: Partial,
-    smallest: bool,
-    from: Stage,
-) -> Stage
-    requires { own ≤ from.total }
-    ensures { Longer own left.old right.old from.total left.new right.new result.total }
-{
-    let mut s = from;
-    let mut more = STARTS;
-    while 0 < more {
-        if s.over {
-            return s;
-        }
-        s = start(left, right, own, notes, base, smallest, s);
-        more -= 1;
-    }
-    s
-}
-
-// Learns rows behind the first `total`, of which the first `own` stay, until what is to be told of `base` follows from the rows by
-// propagation: that there is no model, or a model, the smallest one where it is wanted.
-pub fn learn(
-    left: &mut [u64],
-    right: &mut [u64],
-    own: usize,
-    total: usize,
-    base: Partial,
-    smallest: bool,
-) -> Stage
-    requires { own ≤ total }
-    ensures { Longer own left.old right.old total left.new right.new result.total }
+// Learns rows until what is to be told of `base` follows from the rows by propagation: that there is no model, or a model, the
+// smallest one where it is wanted; or until the starts are used up. The model met last is the result.
+pub fn learn(t: &mut Table, base: Partial, smallest: bool) -> AtomSet
+    ensures { Learned t.old t.new }
 {
     let mut notes = [0u16; NOTES];
-    watching::enter_all(left, right, total, &mut notes, base);
-    let s = Stage {
-        total,
+    watching::enter_all(t, &mut notes, base);
+    let mut s = Stage {
         model: AtomSet::EMPTY,
         ordered: atoms::LIMIT,
         over: false,
     };
-    starts(left, right, own, &mut notes, base, smallest, s)
+    for _ in 0..STARTS {
+        if s.over {
+            return s.model;
+        }
+        s = start(t, &mut notes, base, smallest, s);
+    }
+    s.model
 }

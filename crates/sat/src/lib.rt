@@ -6,49 +6,30 @@ ghost use Rattle.atoms.specs.Sets.{limit};
 ghost use Rattle.atoms.specs.Words.{num};
 ghost use Rattle.ipl.specs.Question.{ask};
 ghost use Rattle.ipl.specs.Search.{is_none};
-ghost use Rattle.sat.specs.Table.{clauses};
-ghost use Rattle.sat.specs.Answer.{answer_of, Attempted, AskedKeeping, ProvedKeeping};
-ghost use Rattle.sat.specs.Descent.{Base};
+ghost use Rattle.sat.specs.Table.{clauses, all_hold};
+ghost use Rattle.sat.specs.Answer.{answer_of, Countering, Attempted, AskedKeeping, ProvedKeeping};
 
 use atoms::AtomSet;
 
+mod clauses;
 mod known;
 mod learning;
 mod longer;
 mod propagation;
 mod search;
 
-pub use propagation::all_hold;
+use clauses::Clauses;
+use known::Partial;
 use search::Found;
 
 // How many conflicts a question may meet before it learns from them.
 const PATIENCE: u64 = 8;
 
-// What is known of a model: atoms that it has, and atoms that it lacks.
-#[derive(Clone, Copy)]
-struct Partial {
-    has: AtomSet,
-    lacks: AtomSet,
-}
-
-// Yes: proved. No: the smallest model that has the atoms given and lacks the atom asked for.
-#[derive(Clone, Copy)]
-pub enum Answer {
-    Proved,
-    Countered(AtomSet),
-}
-
-// An answer, or the start of a search that gave up.
-#[derive(Clone, Copy)]
-enum First {
-    Answered(Answer),
-    GaveUp(Partial),
-}
-
-// The answer, and how many rows are then kept.
+// The answer, and how many rows are then kept. None is yes; no is the smallest model that has the atoms given and lacks the atom asked
+// for.
 #[derive(Clone, Copy)]
 pub struct Asked {
-    pub answer: Answer,
+    pub answer: Option<AtomSet>,
     pub kept: usize,
 }
 
@@ -59,74 +40,58 @@ pub struct Proof {
     pub kept: usize,
 }
 
-// What a model that counters must have and lack: nothing from n on, and not the atom asked.
-fn countering(n: u8, given: AtomSet, asked: u8) -> Partial
-    ensures { Base n (num given) asked result }
+// What a model that counters must have and lack: nothing from n on, and not the atom asked. None where it is to have an atom that it
+// is to lack.
+fn countering(n: u8, given: AtomSet, asked: u8) -> Option<Partial>
+    ensures { Countering n (num given) asked result }
 {
     let past = AtomSet::below(n).complement();
-    Partial {
-        has: given,
-        lacks: past.join(AtomSet::single(asked)),
-    }
-}
-
-// The answer of a search that meets few conflicts; else what a model that counters must have and lack.
-fn attempt<'a>(
-    left: &'a [u64],
-    right: &'a [u64],
-    count: usize,
-    n: u8,
-    given: AtomSet,
-    asked: u8,
-) -> First
-    ensures { Attempted n (num given) asked (ask (min n limit) (clauses left.now right.now count) (num given) asked) result }
-{
-    let base = countering(n, given, asked);
-    let lacked = base.lacks;
+    let lacked = past.join(AtomSet::single(asked));
     if given.meets(lacked) {
-        return First::Answered(Answer::Proved);
+        return None;
     }
     given.bounded();
     lacked.bounded();
-    match search::least(left, right, count, base, PATIENCE) {
-        Found::Least(m) => First::Answered(Answer::Countered(m)),
-        Found::Blocked(_) => First::Answered(Answer::Proved),
-        Found::GaveUp => First::GaveUp(base),
-    }
+    Some(Partial {
+        has: given,
+        lacks: lacked,
+    })
 }
 
-// Whether the answer is yes.
-fn is_yes(answer: Answer) -> bool
-    ensures { result ≡ is_none (answer_of answer) }
+// The answer of a search that meets few conflicts; else what a model that counters must have and lack.
+fn attempt(t: Clauses, n: u8, given: AtomSet, asked: u8) -> Result<Option<AtomSet>, Partial>
+    ensures { Attempted n (num given) asked (ask (min n limit) (clauses t.entry.left.now t.entry.right.now t.entry.count) (num given) asked) result }
 {
-    match answer {
-        Answer::Proved => true,
-        Answer::Countered(_) => false,
+    let Some(base) = countering(n, given, asked) else {
+        return Ok(None);
+    };
+    match search::least(&t, base, PATIENCE) {
+        Found::Least(m) => Ok(Some(m)),
+        Found::Blocked(_) => Ok(None),
+        Found::GaveUp => Err(base),
     }
 }
 
 // Do the first `count` clauses of the table, over atoms below n, and the atoms `given` prove the atom `asked`? ⊥ is `ipl::BOTTOM`.
-pub fn ask<'a>(
-    left: &'a [u64],
-    right: &'a [u64],
+pub fn ask(
+    left: &[u64],
+    right: &[u64],
     count: usize,
     n: u8,
     given: AtomSet,
     asked: u8,
-) -> Answer
+) -> Option<AtomSet>
     ensures { answer_of result ≡ ask (min n limit) (clauses left.now right.now count) (num given) asked }
 {
     let mut kept = [0u64; 2 * atoms::WORDS];
-    let r = ask_keeping(left, right, count, n, given, asked, &mut kept, 0);
-    let answer = r.answer;
-    answer
+    ask_keeping(left, right, count, n, given, asked, &mut kept, 0).answer
 }
 
 // The same question. The first `rows` rows kept in the table lent, each in two of its rows, are taken for rows that follow from the
 // clauses; where they do, so do those that it keeps then, as many as is said.
-pub fn ask_keeping<'a>(
-    left: &'a [u64],
-    right: &'a [u64],
+pub fn ask_keeping(
+    left: &[u64],
+    right: &[u64],
     count: usize,
     n: u8,
     given: AtomSet,
@@ -137,16 +102,17 @@ pub fn ask_keeping<'a>(
     ensures { AskedKeeping left.now right.now count kept.old rows
         (ask (min n limit) (clauses left.now right.now count) (num given) asked) kept.new result }
 {
-    match attempt(left, right, count, n, given, asked) {
-        First::Answered(answer) => Asked { answer, kept: rows },
-        First::GaveUp(base) => longer::settle(left, right, count, base, true, kept, rows),
+    let t = Clauses { left, right, count };
+    match attempt(t, n, given, asked) {
+        Ok(answer) => Asked { answer, kept: rows },
+        Err(base) => longer::settle(t, base, true, kept, rows),
     }
 }
 
 // The same question, answered by yes or no.
-pub fn proves<'a>(
-    left: &'a [u64],
-    right: &'a [u64],
+pub fn proves(
+    left: &[u64],
+    right: &[u64],
     count: usize,
     n: u8,
     given: AtomSet,
@@ -157,18 +123,25 @@ pub fn proves<'a>(
     ensures { ProvedKeeping left.now right.now count kept.old rows
         (ask (min n limit) (clauses left.now right.now count) (num given) asked) kept.new result }
 {
-    match attempt(left, right, count, n, given, asked) {
-        First::Answered(answer) => Proof {
-            proved: is_yes(answer),
+    let t = Clauses { left, right, count };
+    match attempt(t, n, given, asked) {
+        Ok(answer) => Proof {
+            proved: answer.is_none(),
             kept: rows,
         },
-        First::GaveUp(base) => {
-            let r = longer::settle(left, right, count, base, false, kept, rows);
-            let answer = r.answer;
+        Err(base) => {
+            let r = longer::settle(t, base, false, kept, rows);
             Proof {
-                proved: is_yes(answer),
+                proved: r.answer.is_none(),
                 kept: r.kept,
             }
         }
     }
+}
+
+// Whether the first `count` clauses are all true at m.
+pub fn all_hold(left: &[u64], right: &[u64], count: usize, m: AtomSet) -> bool
+    ensures { result ≡ all_hold left.now right.now (num m) count }
+{
+    propagation::each_holds(Clauses { left, right, count }, m)
 }

@@ -1,212 +1,139 @@
-// Unit propagation, and truth of all clauses at a set.
+// Unit propagation, and truth of all clauses at a set. None is a conflict: what is known has no model.
 ghost use Rattle.std.specs.Prelude.{◌≡◌, ◌≤◌};
 ghost use Rattle.atoms.specs.Words.{num};
-ghost use Rattle.ipl.specs.Clause.{satisfies};
-ghost use Rattle.sat.specs.Table.{Holds, AllHold, all_hold, PassedHolding};
-ghost use Rattle.sat.specs.Knowledge.{Fair, may_tell, PassedSilent, Forces, Propagates};
+ghost use Rattle.sat.specs.Table.{Holds, all_hold};
+ghost use Rattle.sat.specs.Rows.{EachHolds, PassedHolding};
+ghost use Rattle.sat.specs.Knowledge.{may_tell, PassedSilent, Forces, Propagates};
 
-use super::{Partial, known};
+use super::clauses::{Clause, Clauses};
+use super::known::Partial;
 use atoms::AtomSet;
 
+// Where propagation ends: at a model, which are the atoms known to be had, or where it tells no more.
 #[derive(Clone, Copy)]
-enum Forced {
-    Conflict,
-    Known(Partial),
-}
-
-// What propagation comes to: a conflict; a model, which are the atoms known to be had; or what is known.
-#[derive(Clone, Copy)]
-pub enum Propagated {
-    Conflict,
+pub enum Reached {
     Model(Partial),
     Open(Partial),
 }
 
 // Whether a clause may say something under p: it does not where it is true, or where two of its atoms are open.
-fn may_tell(l: AtomSet, r: AtomSet, p: Partial) -> bool
-    ensures { result ≡ may_tell (num l) (num r) p }
+fn may_tell(k: Clause, p: Partial) -> bool
+    ensures { result ≡ may_tell (num k.left) (num k.right) p }
 {
-    let has = p.has;
-    let lacks = p.lacks;
-    let settled = l.common(lacks).join(r.common(has));
-    let open = l.without(has).join(r.without(lacks));
-    settled.join(open.without_lowest()).is_empty()
+    let open = k.open(p).atoms();
+    k.settled(p).join(open.without_lowest()).is_empty()
 }
 
-// The first clause from `from` on that may say something under p, or the end; none is passed over in a table too short.
-fn next_telling<'a>(
-    left: &'a [u64],
-    right: &'a [u64],
-    count: usize,
-    from: usize,
-    p: Partial,
-) -> usize
-    ensures { PassedSilent left.now right.now p from result }
+// The first clause from `from` on that may say something under p, or the end.
+fn next_telling(t: Clauses, from: usize, p: Partial) -> usize
+    ensures { PassedSilent t.entry p from result }
 {
-    if atoms::rows(left) < count {
-        return from;
-    }
-    if atoms::rows(right) < count {
-        return from;
-    }
-    let mut i = from;
-    while i < count {
-        if may_tell(atoms::row(left, i), atoms::row(right, i), p) {
-            return i;
-        }
-        i += 1;
-    }
-    i
+    t.first(from, |k| may_tell(k, p))
 }
 
 // What one clause adds to p.
-fn unit(l: AtomSet, r: AtomSet, p: Partial) -> Forced
-    requires { Fair p }
-    ensures { Forces (Holds (num l) (num r)) p result }
+fn unit(k: Clause, p: Partial) -> Option<Partial>
+    ensures { Forces (Holds (num k.left) (num k.right)) p result }
 {
-    let has = p.has;
-    let lacks = p.lacks;
-    let a = l.without(has);
-    let b = r.without(lacks);
+    let open = k.open(p);
+    let a = open.left;
+    let b = open.right;
     if a.is_empty() {
         if b.is_empty() {
-            return Forced::Conflict;
+            return None;
         }
         let x = b.highest();
-        if x.same(b) {
-            return Forced::Known(known::having(p, x));
+        if x == b {
+            return Some(p.having(x));
         }
-        return Forced::Known(p);
-    }
-    if b.is_empty() {
+    } else if b.is_empty() {
         let x = a.highest();
-        if x.same(a) {
-            return Forced::Known(known::lacking(p, x));
+        if x == a {
+            return Some(p.lacking(x));
         }
     }
-    Forced::Known(p)
+    Some(p)
 }
 
 // What the clauses, each taken once, add to p.
-fn sweep<'a>(left: &'a [u64], right: &'a [u64], count: usize, p: Partial) -> Forced
-    requires { Fair p }
-    ensures { Forces (AllHold left.now right.now count) p result }
+fn sweep(t: Clauses, p: Partial) -> Option<Partial>
+    ensures { Forces (EachHolds t.entry) p result }
 {
     let mut q = p;
-    let mut i = next_telling(left, right, count, 0, p);
-    while i < count {
-        match unit(atoms::row(left, i), atoms::row(right, i), q) {
-            Forced::Conflict => return Forced::Conflict,
-            Forced::Known(s) => q = s,
-        }
-        i = next_telling(left, right, count, i + 1, q);
+    let mut i = next_telling(t, 0, p);
+    while i < t.count {
+        q = unit(t.row(i), q)?;
+        i = next_telling(t, i + 1, q);
     }
-    Forced::Known(q)
+    Some(q)
 }
 
-// Whether a clause is true at m: m lacks an atom of its left side, or has one of its right.
-fn holds(l: AtomSet, r: AtomSet, m: AtomSet) -> bool
-    ensures { result ≡ satisfies (num m) (record { left = num l; right = num r }) }
+// The first clause from `from` on that fails at m, or the end.
+fn next_failing(t: Clauses, from: usize, m: AtomSet) -> usize
+    ensures { PassedHolding t.entry (num m) from result }
 {
-    !l.without(m).join(r.common(m)).is_empty()
-}
-
-// The first clause from `from` on that fails at m, or the end; none is passed over in a table too short.
-fn next_failing<'a>(
-    left: &'a [u64],
-    right: &'a [u64],
-    count: usize,
-    from: usize,
-    m: AtomSet,
-) -> usize
-    ensures { PassedHolding left.now right.now (num m) from result }
-{
-    if atoms::rows(left) < count {
-        return from;
-    }
-    if atoms::rows(right) < count {
-        return from;
-    }
-    let mut i = from;
-    while i < count {
-        if !holds(atoms::row(left, i), atoms::row(right, i), m) {
-            return i;
-        }
-        i += 1;
-    }
-    i
+    t.first(from, |k| !k.holds(m))
 }
 
 // A clause that fails at m, looked for from `from` on and then before it; the end where none does.
-fn failing<'a>(left: &'a [u64], right: &'a [u64], count: usize, from: usize, m: AtomSet) -> usize
-    ensures { count ≤ result → AllHold left.now right.now count (num m) }
+fn failing(t: Clauses, from: usize, m: AtomSet) -> usize
+    ensures { t.entry.count ≤ result → EachHolds t.entry (num m) }
 {
-    let late = next_failing(left, right, count, from, m);
-    if late < count {
+    let late = next_failing(t, from, m);
+    if late < t.count {
         return late;
     }
-    let early = next_failing(left, right, from, 0, m);
+    let early = next_failing(Clauses { count: from, ..t }, 0, m);
     if early < from {
         return early;
     }
-    count
+    t.count
 }
 
 // What the clauses that fail at the atoms had add to p, until none fails, or one that does adds nothing.
-fn raise<'a>(left: &'a [u64], right: &'a [u64], count: usize, p: Partial) -> Propagated
-    requires { Fair p }
-    ensures { Propagates (AllHold left.now right.now count) p result }
+fn raise(t: Clauses, p: Partial) -> Option<Reached>
+    ensures { Propagates (EachHolds t.entry) p result }
 {
     let mut q = p;
-    let mut i = failing(left, right, count, 0, p.has);
-    while i < count {
-        match unit(atoms::row(left, i), atoms::row(right, i), q) {
-            Forced::Conflict => return Propagated::Conflict,
-            Forced::Known(s) => {
-                if known::same(s, q) {
-                    return Propagated::Open(q);
-                }
-                q = s;
-            }
+    let mut i = failing(t, 0, p.has);
+    while i < t.count {
+        let s = unit(t.row(i), q)?;
+        if s == q {
+            return Some(Reached::Open(q));
         }
-        i = failing(left, right, count, i + 1, q.has);
+        q = s;
+        i = failing(t, i + 1, q.has);
     }
-    Propagated::Model(q)
+    Some(Reached::Model(q))
 }
 
 // What the clauses add to p, as far as units go, or until they all hold.
-pub fn propagate<'a>(left: &'a [u64], right: &'a [u64], count: usize, p: Partial) -> Propagated
-    requires { Fair p }
-    ensures { Propagates (AllHold left.now right.now count) p result }
+pub fn propagate(t: Clauses, p: Partial) -> Option<Reached>
+    ensures { Propagates (EachHolds t.entry) p result }
 {
     let mut q = p;
     loop {
-        match raise(left, right, count, q) {
-            Propagated::Conflict => return Propagated::Conflict,
-            Propagated::Model(r) => return Propagated::Model(r),
-            Propagated::Open(r) => match sweep(left, right, count, r) {
-                Forced::Conflict => return Propagated::Conflict,
-                Forced::Known(s) => {
-                    if known::same(s, r) {
-                        return Propagated::Open(s);
-                    }
-                    q = s;
+        match raise(t, q)? {
+            Reached::Model(r) => return Some(Reached::Model(r)),
+            Reached::Open(r) => {
+                let s = sweep(t, r)?;
+                if s == r {
+                    return Some(Reached::Open(s));
                 }
-            },
+                q = s;
+            }
         }
     }
 }
 
 // Whether every clause is true at m.
-pub fn all_hold<'a>(left: &'a [u64], right: &'a [u64], count: usize, m: AtomSet) -> bool
-    ensures { result ≡ all_hold left.now right.now (num m) count }
+pub fn each_holds(t: Clauses, m: AtomSet) -> bool
+    ensures { result ≡ all_hold t.entry.left.now t.entry.right.now (num m) t.entry.count }
 {
-    let mut k = 0;
-    while k < count {
-        if !holds(atoms::row(left, k), atoms::row(right, k), m) {
+    for k in 0..t.count {
+        if !t.row(k).holds(m) {
             return false;
         }
-        k += 1;
     }
     true
 }

@@ -1,15 +1,15 @@
-// The search for the smallest model: propagate, then decide the highest open atom, false first. Those who call `least` meet its
-// `requires`; the functions here meet each other's.
-ghost use Rattle.sat.specs.Table.{AllHold};
-ghost use Rattle.sat.specs.Knowledge.{Fair};
+// The search for the smallest model: propagate, then decide the highest open atom, false first.
+ghost use Rattle.sat.specs.Rows.{EachHolds};
 ghost use Rattle.sat.specs.Descent.{Answers, Spent, Steps, Settles};
 
-use super::propagation::Propagated;
-use super::{Answer, Partial, known, propagation};
+use super::clauses::Clauses;
+use super::known::Partial;
+use super::propagation;
+use super::propagation::Reached;
 use atoms::AtomSet;
 
-// A number of conflicts that is never used up.
-const NO_LIMIT: u64 = 0xffff_ffff_ffff_ffff;
+// A number of conflicts that is never used up. It is no Option: an answer then goes back in two registers.
+const NO_LIMIT: u64 = u64::MAX;
 
 // The smallest model; that there is none, and how many conflicts may still be met; or that too many were met.
 #[derive(Clone, Copy)]
@@ -19,15 +19,14 @@ pub enum Found {
     GaveUp,
 }
 
-// An answer, or what is then known and the highest open atom.
+// The smallest model, or what is known and the highest open atom.
 #[derive(Clone, Copy)]
 enum Step {
     Least(AtomSet),
-    Blocked,
     Split(Partial, AtomSet),
 }
 
-// After one conflict more.
+// After one conflict more of those that may be met.
 fn spent(conflicts: u64) -> Found
     ensures { Spent conflicts result }
 {
@@ -40,61 +39,48 @@ fn spent(conflicts: u64) -> Found
     Found::Blocked(conflicts - 1)
 }
 
-// Propagates, and answers at once or finds the atom to decide.
-fn descend<'a>(left: &'a [u64], right: &'a [u64], count: usize, known: Partial) -> Step
-    requires { Fair known }
-    ensures { Steps (AllHold left.now right.now count) known result }
+// Propagates, and answers at once or finds the atom to decide; None where there is no model.
+fn descend(t: Clauses, known: Partial) -> Option<Step>
+    ensures { Steps (EachHolds t.entry) known result }
 {
-    match propagation::propagate(left, right, count, known) {
-        Propagated::Conflict => Step::Blocked,
-        Propagated::Model(q) => {
-            let has = q.has;
-            Step::Least(has)
-        }
-        Propagated::Open(q) => {
-            let open = known::atoms(q).complement();
+    match propagation::propagate(t, known)? {
+        Reached::Model(q) => Some(Step::Least(q.has)),
+        Reached::Open(q) => {
+            let open = q.atoms().complement();
             if !open.is_empty() {
-                return Step::Split(q, open.highest());
+                return Some(Step::Split(q, open.highest()));
             }
-            let has = q.has;
-            if propagation::all_hold(left, right, count, has) {
-                return Step::Least(has);
+            if propagation::each_holds(t, q.has) {
+                return Some(Step::Least(q.has));
             }
-            Step::Blocked
+            None
         }
     }
 }
 
 // The smallest model of what is known, or that there is none; given up where more than `conflicts` conflicts are met.
-pub fn least<'a>(
-    left: &'a [u64],
-    right: &'a [u64],
-    count: usize,
-    known: Partial,
-    conflicts: u64,
-) -> Found
-    requires { Fair known }
-    ensures { Answers (AllHold left.now right.now count) known conflicts result }
+// The table goes down by reference, so that no level copies it.
+pub fn least(t: &Clauses, known: Partial, conflicts: u64) -> Found
+    ensures { Answers (EachHolds t.now) known conflicts result }
 {
-    match descend(left, right, count, known) {
-        Step::Least(m) => Found::Least(m),
-        Step::Blocked => spent(conflicts),
-        Step::Split(q, x) => match least(left, right, count, known::lacking(q, x), conflicts) {
+    match descend(*t, known) {
+        None => spent(conflicts),
+        Some(Step::Least(m)) => Found::Least(m),
+        Some(Step::Split(q, x)) => match least(t, q.lacking(x), conflicts) {
             Found::Least(m) => Found::Least(m),
             Found::GaveUp => Found::GaveUp,
-            Found::Blocked(more) => least(left, right, count, known::having(q, x), more),
+            Found::Blocked(more) => least(t, q.having(x), more),
         },
     }
 }
 
 // The smallest model of what is known, or that there is none, however many conflicts are met.
-pub fn settle<'a>(left: &'a [u64], right: &'a [u64], count: usize, known: Partial) -> Answer
-    requires { Fair known }
-    ensures { Settles (AllHold left.now right.now count) known result }
+pub fn settle(t: Clauses, known: Partial) -> Option<AtomSet>
+    ensures { Settles (EachHolds t.entry) known result }
 {
-    match least(left, right, count, known, NO_LIMIT) {
-        Found::Least(m) => Answer::Countered(m),
-        Found::Blocked(_) => Answer::Proved,
-        Found::GaveUp => Answer::Proved,
+    match least(&t, known, NO_LIMIT) {
+        Found::Least(m) => Some(m),
+        Found::Blocked(_) => None,
+        Found::GaveUp => None,
     }
 }

@@ -56,7 +56,7 @@ module _ (kept : List ℕ) (blank : Bool) (long : longest_call < length kept) (s
   long_no_call d = record { inside = tt; is = λ line same b. sym (long_line line same b ∙ ap (λ (c : Bool). cond c silent no_call) (ne_eqb (get_or kept 0 0) 35 d)) }
 
 -- What is kept of the line that has begun.
-pub kept_is : (bytes buffer : List ℕ) (p : Pending) (n : ℕ) → Begun bytes buffer p → n ≡ min p.length (min (length buffer) line_room) → take n buffer ≡ take line_room bytes
+pub kept_is : (bytes buffer : List ℕ) (p : Pending) (n : ℕ) → Begun bytes buffer p → n ≡ min (min p.length (length buffer)) line_room → take n buffer ≡ take line_room bytes
 kept_is bytes buffer p n h e =
     let fills : p.length ≡ min (length bytes) (length buffer) = h.kept.fills in
     let room : length buffer ≡ line_room = h.room in
@@ -64,6 +64,3 @@ kept_is bytes buffer p n h e =
       | yes l ↦ take_all p.length bytes (omega arith) ∙ sym (take_all line_room bytes l)
       | no l ↦ ap (λ (k : ℕ). take k bytes) {x = p.length} {y = line_room} (omega arith)
     ]
-
-pub kept_short : (buffer : List ℕ) (n size : ℕ) → n ≡ min size (min (length buffer) line_room) → length (take n buffer) ≤ line_room
-kept_short buffer n size e = omega (arith, length-take n buffer)

@@ -1,23 +1,49 @@
--- Laws of the place of the first byte.
-use mathlib.Core.Path.{◌≡◌}
-use Prim.Native.Nat.{ℕ, suc, ◌+◌, ◌<◌, ◌≤◌}
-use native.Mathlib.Numerals.{add-one}
-use lib.ListN.{length, drop, get_or, drop_of_length-le}
-use lib.Seq.{drop-cons}
-use mathlib.Core.List.{List}
-use mathlib.Core.Path.{refl}
+-- The first place of a byte, the first that is no space, and a test of every byte, in the words of the library.
+use Rattle.std.proofs.Common.{Bool, true, false, cond, not, ◌+◌, suc, drop, ◌≡◌, ◌≢◌, ℕ, List, [], ◌∷◌, length, refl, eqb, arith}
+use Rattle.std.specs.List.{list_all, position_or_len, AllWithin}
 use borrow.Author.Tests.{eq-eqb, ne_eqb}
-use Rattle.script.specs.Places.{index_of, index_after}
+use Rattle.script.specs.Words.{space, unindented}
+use Rattle.script.specs.Parts.{index_of, index_after}
 
-module _ (b : ℕ) (l : List ℕ) (i : ℕ) where
-  pub index_here : i < length l → get_or l i 0 ≡ b → index_of b (drop i l) ≡ 0
-  unfolding index_of index_after
-  index_here inside e = rw (drop-cons l i 0, eq-eqb (get_or l i 0) b e) refl
+-- ---- a byte
 
-  pub index_next : i < length l → (get_or l i 0 ≡ b → ⊥) → index_of b (drop i l) ≡ suc (index_of b (drop (i + 1) l))
-  unfolding index_of index_after
-  index_next inside d = rw (add-one, drop-cons l i 0, ne_eqb (get_or l i 0) b d) refl
-
-  pub index_past : length l ≤ i → index_of b (drop i l) ≡ 0
+module _ (b : ℕ) where
+  pub index_none : index_of b [] ≡ 0
   unfolding index_of
-  index_past h = rw (drop_of_length-le l h) refl
+  index_none = refl
+
+  pub index_here : (x : ℕ) (l : List ℕ) → x ≡ b → index_of b (x ∷ l) ≡ 0
+  unfolding index_of index_after
+  index_here x l e = rw (eq-eqb x b e)
+
+  pub index_behind : (x : ℕ) (l : List ℕ) → x ≢ b → index_of b (x ∷ l) ≡ index_of b l + 1
+  unfolding index_of index_after
+  index_behind x l d = rw (ne_eqb x b d) (omega arith)
+
+-- ---- spaces before a word
+
+abbrev pub spaces : List ℕ → ℕ
+spaces = position_or_len (λ x. not (eqb x space))
+
+pub spaces_at_word : (x : ℕ) (l : List ℕ) → x ≢ space → spaces (x ∷ l) ≡ 0
+spaces_at_word x l d = rw (ne_eqb x space d)
+
+pub spaces_more : (x : ℕ) (l : List ℕ) → x ≡ space → spaces (x ∷ l) ≡ spaces l + 1
+spaces_more x l e = rw (eq-eqb x space e) (omega arith)
+
+pub unindented_is : (l : List ℕ) → unindented l ≡ drop (spaces l) l
+unfolding unindented
+unindented_is [] = refl
+unindented_is (x ∷ l) = go (eqb x space) (unindented_is l)
+  where
+    go : (t : Bool) → unindented l ≡ drop (spaces l) l → cond t (unindented l) (x ∷ l) ≡ drop (cond (not (not t)) (1 + spaces l) 0) (x ∷ l)
+    go true e =
+        let one : 1 + spaces l ≡ suc (spaces l) = omega arith in
+        rw one e
+    go false e = refl
+
+-- ---- every byte
+
+pub every : (p : ℕ → Bool) (l : List ℕ) → AllWithin (λ x. p x ≡ true) l 0 (length l) → list_all p l ≡ true
+every p [] h = refl
+every p (x ∷ l) h = rw (h 0 0 (omega arith) (omega arith)) (every p l (λ k d low high. h (suc k) d (omega arith) (omega arith)))

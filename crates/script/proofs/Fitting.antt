@@ -28,7 +28,7 @@ use Rattle.ipl.proofs.Page.{page_few}
 use Rattle.prover.specs.State.{book}
 use Rattle.prover.specs.Work.{work_at, works_of}
 use Rattle.prover.specs.Calls.{mean_refusal, mean_of, mean_by}
-use Rattle.prover.specs.declared.PerVerdict.TheVariants.{Refused}
+use Rattle.prover.specs.PerVerdict.{Refused}
 use Rattle.prover.specs.declared.Work.{Work}
 use Rattle.prover.proofs.Works.{Bounded, bounded_at}
 use Rattle.prover.specs.declared.Session.{Session}
@@ -45,8 +45,7 @@ use Rattle.certify.specs.Written.{told_of}
 use Rattle.certify.proofs.Buffer.{bytes_counted}
 use Rattle.certify.proofs.DemandTwo.{IsRight}
 use Rattle.text.specs.Text.{ascii, labelled, hex}
-use Rattle.text.specs.Output.{longest, Appends}
-use Rattle.text.proofs.Appending.{begun}
+use Rattle.text.specs.Output.{longest, Started}
 use Rattle.text.proofs.Hexadecimal.{hex_length}
 use Rattle.text.proofs.Lengths.{labelled_length, refusal_length}
 use Rattle.judgement.proofs.Fitting.{judgement_fits}
@@ -63,8 +62,8 @@ use Rattle.script.proofs.Standing.{state_of, Stands}
 abbrev pub Fits : List ℕ → Type 0
 Fits text = length text ≤ output_room
 
-pub whole : {T entry exit : List ℕ} {r : ℕ} → Fits T → output_room ≤ length entry → Appends T entry 0 exit r → take r exit ≡ T
-whole {T} {r = r} fits room a = let b = begun a in b.same ∙ take_all r T (omega (arith, b.fills, a.size))
+pub whole : {T entry exit : List ℕ} {r : ℕ} → Fits T → output_room ≤ length entry → Started T entry exit r → take r exit ≡ T
+whole {T} {r = r} fits room a = let b = a.begins in b.same ∙ take_all r T (omega (arith, b.fills, a.size))
 
 -- ---- changes
 

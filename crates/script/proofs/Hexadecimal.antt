@@ -1,19 +1,20 @@
 -- Laws of the bytes that digits in base sixteen stand for.
 use mathlib.Core.Bool.{Bool, true, false, cond, ◌&&◌, ◌||◌, true≢false}
 use mathlib.Core.List.{List, [], ◌∷◌}
-use mathlib.Core.Option.{Option, none, some}
+use Rattle.std.specs.Prelude.{Option, None, Some}
 use mathlib.Core.Path.{◌≡◌, refl, sym, ap, ap₂, ◌∙◌, subst}
-use Prim.Native.Nat.{ℕ, suc, ◌+◌, ◌-◌, ◌*◌, ◌/◌, ◌%◌, ◌≤◌, ◌<◌}
+use Prim.Native.Nat.{ℕ, ◌+◌, ◌-◌, ◌*◌, ◌/◌, ◌%◌, ◌≤◌, ◌<◌}
 use native.Mathlib.Decide.{dec_lt}
-use native.Mathlib.Numerals.{add-one, add-two}
 use native.Mathlib.Omega.{arith}
 use lib.Dec.{T, eqb, ltb, eqb→eq}
-use lib.ListN.{length, drop, get_or, length-drop, drop_of_length-le}
-use lib.Seq.{drop-cons}
+use lib.ListN.{length, take, drop, get_or}
+use lib.Seq.{take_all}
 use borrow.Author.Tests.{eq-eqb, le-leb, lt-leb, lt-ltb, le-ltb}
 use Rattle.atoms.proofs.Truth.{T_left, T_right, T_true, true_T, by_cond}
-use Rattle.ipl.specs.Lists.{all, All}
+use Rattle.std.specs.List.{list_all}
+use Rattle.ipl.specs.Lists.{All}
 use Rattle.text.specs.Text.{hex_digit, hex}
+use Rattle.text.specs.declared.draft.Draft.{Draft}
 use Rattle.text.specs.Output.{Appends}
 use Rattle.text.proofs.Appending.{same_text, nothing, both}
 use Rattle.text.proofs.Hexadecimal.{hex_length}
@@ -42,35 +43,7 @@ pub letter_value : (b : ℕ) → is_digit b ≡ false → is_hex_letter b ≡ tr
 unfolding hex_value
 letter_value b d e = (rw (d, e) (omega (arith, letter_range b e)), omega (arith, letter_range b e))
 
-pub other_value : (b : ℕ) → is_digit b ≡ false → is_hex_letter b ≡ false → 0 ≡ hex_value b
-unfolding hex_value
-other_value b d e = rw (d, e)
-
--- ---- the digits before a place
-
-pub record DigitsBefore (word : List ℕ) (i : ℕ) : Type 0 where
-  pub inside : i ≤ length word
-  pub is : all is_hex_digit word ≡ all is_hex_digit (drop i word)
-
-pub none_before : (word : List ℕ) → DigitsBefore word 0
-none_before word = record { inside = omega arith; is = refl }
-
-module _ {word : List ℕ} {i : ℕ} (p : DigitsBefore word i) where
-  pub another_byte : i < length word → is_hex_digit (get_or word i 0) ≡ false → false ≡ (all is_hex_digit word && eqb (length word % 2) 0)
-  unfolding all
-  another_byte h e = rw (p.is, drop-cons word i 0, e)
-
-  pub one_before : i < length word → is_hex_digit (get_or word i 0) ≡ true → DigitsBefore word (i + 1)
-  unfolding all
-  one_before h e = record { inside = omega arith; is = p.is ∙ rw (add-one, drop-cons word i 0, e) }
-
-  pub all_before : length word ≤ i → eqb (i % 2) 0 ≡ (all is_hex_digit word && eqb (length word % 2) 0)
-  unfolding all
-  all_before h =
-      let here : i ≡ length word = omega (arith, p.inside) in
-      rw (p.is, drop_of_length-le word h) (ap (λ (n : ℕ). eqb (n % 2) 0) here)
-
--- ---- the bytes of the digits before a place
+-- ---- the bytes of digits
 
 paired_short : (l : List ℕ) → length l ≤ 1 → paired l ≡ []
 unfolding paired
@@ -78,32 +51,28 @@ paired_short [] h = refl
 paired_short (x ∷ []) h = refl
 paired_short (x ∷ y ∷ l) h = absurd (omega arith)
 
-paired_more : (word : List ℕ) (i : ℕ) → i + 1 < length word
-    → paired (drop i word) ≡ (16 * hex_value (get_or word i 0) + hex_value (get_or word (i + 1) 0)) ∷ paired (drop (i + 2) word)
+-- Whatever appends the bytes of the other digits appends them all.
+pub record BytesBefore (word : List ℕ) (before : Draft) (rest : List ℕ) (sheet : Draft) : Type 0 where
+  pub others : (after : Draft) → Appends (paired rest) sheet after → Appends (paired word) before after
+
+paired_more : (rest : List ℕ) → 2 ≤ length rest
+    → paired rest ≡ (16 * hex_value (get_or rest 0 0) + hex_value (get_or rest 1 0)) ∷ paired (take (length rest - 2) (drop 2 rest))
 unfolding paired
-paired_more word i h =
-    let first : i < length word = omega arith in
-    let second : suc i < length word = omega arith in
-    rw (add-one i, add-two i, drop-cons word i 0, drop-cons word (suc i) 0)
+paired_more [] h = absurd (omega arith)
+paired_more (high ∷ []) h = absurd (omega arith)
+paired_more (high ∷ low ∷ l) h =
+    ap (λ (m : List ℕ). (16 * hex_value high + hex_value low) ∷ paired m) (sym (take_all (length (high ∷ low ∷ l) - 2) l (omega arith)))
 
--- Whatever appends the other bytes appends them all.
-pub record BytesBefore (word before : List ℕ) (i : ℕ) (sheet : List ℕ) (end : ℕ) : Type 0 where
-  pub inside : i ≤ length word
-  pub others : (after : List ℕ) (r : ℕ) → Appends (paired (drop i word)) sheet end after r → Appends (paired word) before 0 after r
+module _ {word rest : List ℕ} {before sheet : Draft} (p : BytesBefore word before rest sheet) where
+  pub byte_before : 2 ≤ length rest → (b : ℕ) (after : Draft) → b ≡ 16 * hex_value (get_or rest 0 0) + hex_value (get_or rest 1 0)
+      → Appends (b ∷ []) sheet after → BytesBefore word before (take (length rest - 2) (drop 2 rest)) after
+  byte_before h b after is a =
+      let further : List ℕ = paired (take (length rest - 2) (drop 2 rest)) in
+      let text : b ∷ further ≡ paired rest = ap (λ (v : ℕ). v ∷ further) is ∙ sym (paired_more rest h) in
+      record { others = λ z q. p.others z (same_text text (both a q)) }
 
-pub no_bytes_before : (word sheet : List ℕ) → BytesBefore word sheet 0 sheet 0
-no_bytes_before word sheet = record { inside = omega arith; others = λ after r p. p }
-
-module _ {word before sheet : List ℕ} {i end : ℕ} (p : BytesBefore word before i sheet end) where
-  pub byte_before : (b : ℕ) (after : List ℕ) (r : ℕ) → 1 < length word - i → b ≡ 16 * hex_value (get_or word i 0) + hex_value (get_or word (i + 1) 0)
-      → Appends (b ∷ []) sheet end after r → BytesBefore word before (i + 2) after r
-  byte_before b after r h e a =
-      let rest : List ℕ = paired (drop (i + 2) word) in
-      let text : b ∷ rest ≡ paired (drop i word) = ap (λ (v : ℕ). v ∷ rest) e ∙ sym (paired_more word i (omega arith)) in
-      record { inside = omega arith; others = λ z s q. p.others z s (same_text text (both a q)) }
-
-  pub all_bytes_before : length word - i ≤ 1 → Appends (paired word) before 0 sheet end
-  all_bytes_before h = p.others sheet end (same_text (sym (paired_short (drop i word) (omega (arith, length-drop i word)))) (nothing sheet end))
+  pub all_bytes_before : length rest ≤ 1 → Appends (paired word) before sheet
+  all_bytes_before h = p.others sheet (same_text (sym (paired_short rest h)) (nothing sheet))
 
 -- ---- digits and bytes, there and back
 
@@ -136,20 +105,20 @@ value_back x h = elim (dec_lt x 10) [
 ]
 
 -- The digits of bytes.
-paired_hex : (word : List ℕ) → T (all is_hex_digit word) → length word % 2 ≡ 0 → word ≡ hex (paired word)
-unfolding all paired hex
+paired_hex : (word : List ℕ) → T (list_all is_hex_digit word) → length word % 2 ≡ 0 → word ≡ hex (paired word)
+unfolding paired hex
 paired_hex [] t e = refl
 paired_hex (x ∷ []) t e = absurd (omega arith)
 paired_hex (high ∷ low ∷ word) t e =
-    let first = T_left (is_hex_digit high) (is_hex_digit low && all is_hex_digit word) t in
-    let others = T_right (is_hex_digit high) (is_hex_digit low && all is_hex_digit word) t in
-    let second = T_left (is_hex_digit low) (all is_hex_digit word) others in
+    let first = T_left (is_hex_digit high) (is_hex_digit low && list_all is_hex_digit word) t in
+    let others = T_right (is_hex_digit high) (is_hex_digit low && list_all is_hex_digit word) t in
+    let second = T_left (is_hex_digit low) (list_all is_hex_digit word) others in
     let b : ℕ = 16 * hex_value high + hex_value low in
     let a : hex_digit (b / 16) ≡ high =
     ap hex_digit {x = b / 16} {y = hex_value high} (omega (arith, below_sixteen low)) ∙ digit_back high (T_true (is_hex_digit high) first) in
     let z : hex_digit (b % 16) ≡ low =
     ap hex_digit {x = b % 16} {y = hex_value low} (omega (arith, below_sixteen low)) ∙ digit_back low (T_true (is_hex_digit low) second) in
-    let more = paired_hex word (T_right (is_hex_digit low) (all is_hex_digit word) others) (omega arith) in
+    let more = paired_hex word (T_right (is_hex_digit low) (list_all is_hex_digit word) others) (omega arith) in
     ap₂ (λ (x : ℕ) (l : List ℕ). x ∷ l) (sym a) (ap₂ (λ (x : ℕ) (l : List ℕ). x ∷ l) (sym z) more)
 
 paired_below : (word : List ℕ) → All (λ (x : ℕ). x < 256) (paired word)
@@ -166,27 +135,27 @@ hex_paired (b ∷ bytes) h =
     let low = (value_back (b % 16) (omega arith)).1 in
     ap₂ (λ (x : ℕ) (l : List ℕ). x ∷ l) (omega (arith, high, low)) (hex_paired bytes h.1)
 
-hex_digits : (bytes : List ℕ) → All (λ (x : ℕ). x < 256) bytes → all is_hex_digit (hex bytes) ≡ true
-unfolding all hex
+hex_digits : (bytes : List ℕ) → All (λ (x : ℕ). x < 256) bytes → list_all is_hex_digit (hex bytes) ≡ true
+unfolding hex
 hex_digits [] h = refl
 hex_digits (b ∷ bytes) h =
     rw ((value_back (b / 16) (omega (arith, h.0))).0, (value_back (b % 16) (omega arith)).0) (hex_digits bytes h.1)
 
-pub hex_bytes : (bytes : List ℕ) → All (λ (x : ℕ). x < 256) bytes → bytes_in (hex bytes) ≡ some bytes
+pub hex_bytes : (bytes : List ℕ) → All (λ (x : ℕ). x < 256) bytes → bytes_in (hex bytes) ≡ Some bytes
 unfolding bytes_in
 hex_bytes bytes h =
-    rw (hex_digits bytes h, hex_length bytes, eq-eqb (2 * length bytes % 2) 0 (omega arith)) (ap some (hex_paired bytes h))
+    rw (hex_digits bytes h, hex_length bytes, eq-eqb (2 * length bytes % 2) 0 (omega arith)) (ap Some (hex_paired bytes h))
 
-pub bytes_hex : (word bytes : List ℕ) → bytes_in word ≡ some bytes → (word ≡ hex bytes) × All (λ (x : ℕ). x < 256) bytes
+pub bytes_hex : (word bytes : List ℕ) → bytes_in word ≡ Some bytes → (word ≡ hex bytes) × All (λ (x : ℕ). x < 256) bytes
 unfolding bytes_in
 bytes_hex word bytes =
-    by_cond (λ (o : Option (List ℕ)). o ≡ some bytes → (word ≡ hex bytes) × All (λ (x : ℕ). x < 256) bytes)
-    (all is_hex_digit word && eqb (length word % 2) 0) (some (paired word)) none
+    by_cond (λ (o : Option (List ℕ)). o ≡ Some bytes → (word ≡ hex bytes) × All (λ (x : ℕ). x < 256) bytes)
+    (list_all is_hex_digit word && eqb (length word % 2) 0) (Some (paired word)) None
     (λ e h. subst (λ (l : List ℕ). (word ≡ hex l) × All (λ (x : ℕ). x < 256) l) (cc) (back e, paired_below word))
     (λ _ h. let z : ◌≡◌ {A = ℕ} 0 1 = cc in absurd (omega arith))
   where
-    back : all is_hex_digit word && eqb (length word % 2) 0 ≡ true → word ≡ hex (paired word)
+    back : list_all is_hex_digit word && eqb (length word % 2) 0 ≡ true → word ≡ hex (paired word)
     back e =
         let t = true_T e in
-        paired_hex word (T_left (all is_hex_digit word) (eqb (length word % 2) 0) t)
-        (eqb→eq (length word % 2) 0 (T_right (all is_hex_digit word) (eqb (length word % 2) 0) t))
+        paired_hex word (T_left (list_all is_hex_digit word) (eqb (length word % 2) 0) t)
+        (eqb→eq (length word % 2) 0 (T_right (list_all is_hex_digit word) (eqb (length word % 2) 0) t))

@@ -1,44 +1,47 @@
 -- The program's steps through a piece, one after the other.
-use mathlib.Core.Bool.{true, false}
-use mathlib.Core.List.{List, ◌++◌, append_assoc}
+use Rattle.std.specs.Prelude.{Option, Some, None, MatchOption, ⊤}
+use mathlib.Core.List.{List, [], ◌∷◌, ◌++◌, append_assoc}
 use mathlib.Core.Path.{◌≡◌, sym, ap, ◌∙◌, subst}
-use Prim.Native.Nat.{ℕ, ◌≤◌}
-use lib.ListN.{length, take, drop, drop_of_length-le}
+use Prim.Native.Nat.{ℕ, ◌≤◌, ◌<◌}
+use native.Mathlib.Omega.{arith}
+use lib.ListN.{length, take}
 use Rattle.prover.specs.declared.Session.{Session}
 use Rattle.script.specs.Transcript.{number_after}
+use Rattle.script.specs.Answer.{Answer}
 use Rattle.script.specs.Pieces.{GatheredFrom, Answers}
 use Rattle.script.specs.Run.{output_room, no_line, Run, goes_on, ends, Prints, Through}
 use Rattle.script.specs.declared.Pending.{Pending}
-use Rattle.script.specs.declared.Gathered.{Gathered}
-use Rattle.script.specs.declared.answers.Answer.{Answer}
 
--- From a place of the piece to the next one.
-module _ {s s2 : Session} {number number2 : ℕ} {buffer before after : List ℕ} {p p2 : Pending} (first piece : List ℕ) (start from : ℕ)
-    (so_far : Prints first piece start s number buffer p from s2 number2 before p2) (r : Gathered) (g : GatheredFrom piece from before p2 after r) where
-  pub prints_on : r.ended ≡ false → Prints first piece start s number buffer p r.at s2 number2 after r.pending
-  prints_on e rest printed run = so_far rest printed (goes_on s2 number2 before p2 piece from rest after printed r g e run)
+-- From what is left of the piece to less of it.
+module _ {s s2 : Session} {number number2 : ℕ} {buffer before after : List ℕ} {p p2 q : Pending} (first piece left : List ℕ)
+    (so_far : Prints first piece s number buffer p left s2 number2 before p2) {r : Option (List ℕ)} (g : GatheredFrom left before p2 after q r) where
+  pub prints_on : r ≡ None → Prints first piece s number buffer p [] s2 number2 after q
+  prints_on e more printed run =
+      so_far more printed (goes_on s2 number2 before p2 left more after printed q (subst (GatheredFrom left before p2 after q) e g) run)
 
-  pub prints_answered : {entry exit : List ℕ} {next : ℕ} (a : Answer) → r.ended ≡ true → output_room ≤ length entry → Answers s2 number2 after r.pending entry exit a → next ≡ number_after number2
-      → (longer : List ℕ) → longer ≡ first ++ take a.length exit → Prints longer piece start s number buffer p r.at a.session next after no_line
-  prints_answered {entry} {exit} {next} a e room answers n longer l rest printed run =
-      let step = ends s2 number2 before p2 piece from rest after printed entry exit r a g e room answers
-      (subst (λ (k : ℕ). Run a.session k after no_line (drop r.at piece ++ rest) printed) n run) in
-      subst (Run s number buffer p (drop start piece ++ rest)) (sym (ap (λ (b : List ℕ). b ++ printed) l ∙ append_assoc first (take a.length exit) printed))
-      (so_far rest (take a.length exit ++ printed) step)
+  pub prints_answered : {entry exit : List ℕ} {next : ℕ} (a : Answer) {rest : List ℕ} → r ≡ Some rest → output_room ≤ length entry → Answers s2 number2 after q entry exit a
+      → next ≡ number_after number2
+      → (longer : List ℕ) → longer ≡ first ++ take a.length exit → Prints longer piece s number buffer p rest a.session next after no_line
+  prints_answered {entry} {exit} {next} a {rest} e room answers n longer l more printed run =
+      let step = ends s2 number2 before p2 left rest more after printed entry exit q a (subst (GatheredFrom left before p2 after q) e g) room answers
+      (subst (λ (k : ℕ). Run a.session k after no_line (rest ++ more) printed) n run) in
+      subst (Run s number buffer p (piece ++ more)) (sym (ap (λ (b : List ℕ). b ++ printed) l ∙ append_assoc first (take a.length exit) printed))
+      (so_far more (take a.length exit ++ printed) step)
 
 -- One part of a piece after the other.
-pub prints_more : {s s2 s3 : Session} {number number2 number3 : ℕ} {buffer buffer2 buffer3 : List ℕ} {p p2 p3 : Pending} (piece : List ℕ) (start from at : ℕ)
-    → ((first : List ℕ) × Prints first piece start s number buffer p from s2 number2 buffer2 p2)
-    → (more : List ℕ) → Prints more piece from s2 number2 buffer2 p2 at s3 number3 buffer3 p3
-    → (first : List ℕ) × Prints first piece start s number buffer p at s3 number3 buffer3 p3
-prints_more {s = s} {number = number} {buffer = buffer} {p = p} piece start from at (first, f) more m =
-    (first ++ more, λ rest printed run. subst (Run s number buffer p (drop start piece ++ rest)) (sym (append_assoc first more printed)) (f rest (more ++ printed) (m rest printed run)))
+pub prints_more : {s s2 s3 : Session} {number number2 number3 : ℕ} {buffer buffer2 buffer3 : List ℕ} {p p2 p3 : Pending} (piece left rest : List ℕ)
+    → ((first : List ℕ) × Prints first piece s number buffer p left s2 number2 buffer2 p2)
+    → (next : List ℕ) → Prints next left s2 number2 buffer2 p2 rest s3 number3 buffer3 p3
+    → (first : List ℕ) × Prints first piece s number buffer p rest s3 number3 buffer3 p3
+prints_more {s = s} {number = number} {buffer = buffer} {p = p} piece left rest (first, f) next m =
+    (first ++ next, λ more printed run. subst (Run s number buffer p (piece ++ more)) (sym (append_assoc first next printed)) (f more (next ++ printed) (m more printed run)))
 
 -- At the piece's end.
-pub prints_through : {s s2 : Session} {number number2 : ℕ} {buffer buffer2 : List ℕ} {p p2 : Pending} (piece : List ℕ) (at : ℕ) → length piece ≤ at
-    → ((first : List ℕ) × Prints first piece 0 s number buffer p at s2 number2 buffer2 p2) → Through s number buffer p piece s2 number2 buffer2 p2
-prints_through {s2 = s2} {number2 = number2} {buffer2 = buffer2} {p2 = p2} piece at h (first, l) = (
-  first,
-  λ rest printed run.
-      l rest printed (subst (λ (i : List ℕ). Run s2 number2 buffer2 p2 (i ++ rest) printed) (sym (drop_of_length-le piece h)) run),
-)
+pub prints_through : {s s2 : Session} {number number2 : ℕ} {buffer buffer2 : List ℕ} {p p2 : Pending} (piece rest : List ℕ) → length rest ≤ 0
+    → ((first : List ℕ) × Prints first piece s number buffer p rest s2 number2 buffer2 p2) → Through s number buffer p piece s2 number2 buffer2 p2
+prints_through piece [] h l = l
+prints_through piece (x ∷ rest) h l = absurd (omega arith)
+
+-- Less of the piece is left.
+pub less_left : {left before after rest : List ℕ} {p q : Pending} {r : Option (List ℕ)} → GatheredFrom left before p after q r → r ≡ Some rest → length rest < length left
+less_left {left} g e = subst (λ (o : Option (List ℕ)). MatchOption o ⊤ (λ rest. length rest < length left)) e g.further

@@ -3,7 +3,8 @@ pub mod Values
 pub mod Hexadecimal
 pub mod Splitting
 pub mod Verbs
-pub mod Silence
+pub mod Refusals
+mod Silence
 pub mod Calling
 pub mod Goals
 pub mod Language

@@ -1,5 +1,5 @@
 -- What is printed of a page is what the book's entries are printed as; and it is not too long.
-use mathlib.Core.List.{List, [], ◌∷◌, ◌++◌, append-nil, append_assoc, map-append}
+use mathlib.Core.List.{List, [], ◌∷◌, ◌++◌, append-nil, append_assoc}
 use mathlib.Core.Logic.{inl, inr}
 use mathlib.Core.Option.{Option, none as nothing, some}
 use mathlib.Core.Path.{◌≡◌, refl, sym, ap, ap₂, ◌∙◌, subst}
@@ -7,8 +7,8 @@ use Prim.Native.Nat.{ℕ, suc, ◌+◌, ◌*◌, ◌^◌, ◌≤◌, ◌<◌}
 use Prim.Native.String.{String}
 use native.Mathlib.Decide.{dec_le}
 use native.Mathlib.Omega.{arith}
-use lib.ListN.{length, get_or, set, take, length-append}
-use lib.Seq.{length-take-le, take-suc, take-suc-set}
+use lib.ListN.{length, get_or, take, length-append}
+use lib.Seq.{length-take-le, take-suc}
 use Rattle.ipl.specs.Lists.{All}
 use Rattle.ipl.specs.Range.{world_table}
 use Rattle.ipl.specs.Search.{Outcome, valid, refuted, refused, unfinished}
@@ -19,7 +19,6 @@ use Rattle.ipl.proofs.Search.{OutcomeRight}
 use Rattle.ipl.proofs.Limits.{Fits, Ended}
 use Rattle.ipl.proofs.Page.{earliest_found, entry_kept}
 use Rattle.ipl.proofs.Book.{Reached, answer_right, goal_ended, goal_reached}
-use Rattle.prover.specs.Page.{goals_of}
 use Rattle.prover.specs.Demand.{RecordIs, RecordsAre, none, one_more}
 use Rattle.prover.specs.declared.GoalAnswer.{GoalAnswer}
 use Rattle.prover.specs.declared.GoalRecord.{GoalRecord}
@@ -33,13 +32,6 @@ use Rattle.script.specs.State.{figured_line, outcome_lines, entry_lines, entries
 use Rattle.script.specs.Answer.{answer_lines, record_lines, records_lines}
 
 -- ---- record by record
-
--- The records of the first goals, and one more.
-pub goals_next : (rows : List GoalRecord) (goals : List ℕ) (i : ℕ) (x : GoalRecord) → i < length rows → i < length goals → x.goal ≡ get_or goals i 0
-    → goals_of (take i rows) ≡ take i goals → goals_of (take (i + 1) (set rows i x)) ≡ take (i + 1) goals
-goals_next rows goals i x l m e h =
-    let one_more : i + 1 ≡ suc i = omega arith in
-    rw (one_more, take-suc-set rows i x l, take-suc goals i 0 m) (map-append (λ (x : GoalRecord). x.goal) (take i rows) (x ∷ []) ∙ rw (h, e))
 
 -- The lines of the first records, and those of one more.
 lines_snoc : (i : ℕ) (ys : List GoalRecord) (y : GoalRecord) → records_lines i (ys ++ (y ∷ [])) ≡ records_lines i ys ++ record_lines (i + length ys) y
@@ -62,7 +54,7 @@ record_lines_lem : (i : ℕ) (e : Entry) (x y : GoalRecord) → RecordIs e x y �
 record_lines_lem i (searched (valid end)) x y h = ap (record_lines i) h
 record_lines_lem i (searched (refuted end)) x y (same, answer, worlds) =
     ap (λ (a : GoalAnswer). answer_lines i a y.worlds) answer ∙ ap (λ (W : List ℕ). figured_line i " refuted " (length end.worlds) ++ each world_line W) worlds
-record_lines_lem i (searched (refused number)) x y h = ap (record_lines i) h
+record_lines_lem i (searched (refused number)) x y (e, is, h) = ap (record_lines i) h ∙ ap (figured_line i " refused ") is
 record_lines_lem i (searched unfinished) x y h = absurd h
 record_lines_lem i (refuted_by j) x y h = ap (record_lines i) h
 

@@ -1,26 +1,26 @@
 -- Laws of lines that print nothing, and of the others.
 use mathlib.Core.Bool.{Bool, true, false, cond, ◌&&◌, or-true}
 use mathlib.Core.List.{List, [], ◌∷◌}
-use mathlib.Core.Path.{◌≡◌, refl, ap, ◌∙◌}
-use Prim.Native.Nat.{ℕ, ◌+◌, ◌-◌, ◌≤◌, ◌<◌}
+use mathlib.Core.Path.{◌≡◌, refl}
+use Prim.Native.Nat.{ℕ, ◌≤◌, ◌<◌}
 use native.Mathlib.Omega.{arith}
 use lib.Dec.{eqb}
-use lib.ListN.{length, drop, get_or, drop_of_length-le, length-drop}
-use lib.Seq.{drop-drop, length-take-le}
+use lib.ListN.{length, drop, get_or}
+use lib.Seq.{drop-append_seam}
 use borrow.Author.Tests.{eq-eqb, ne_eqb, le-leb, lt-leb}
-use Rattle.ipl.specs.Lists.{all}
-use Rattle.script.specs.Words.{space, unindented}
-use Rattle.script.specs.Command.{hash, is_blank, is_comment, longest_call, verb_of, command_in, line_of}
-use Rattle.script.specs.Places.{between, NextWord}
-use Rattle.script.specs.Reading.{Arguments, ReadAs}
-use Rattle.script.specs.declared.words.Word.{Word}
+use Rattle.script.specs.Words.{space, words_of, unindented}
+use Rattle.script.specs.Command.{hash, is_blank, is_comment, longest_call, verb_of, command_by, or_none, command_in, line_of}
+use Rattle.script.specs.Parts.{FirstWord}
+use Rattle.script.specs.Reading.{Inside, Means, Arguments, ReadAs}
+use Rattle.std.specs.Prelude.{Option, unwrap_or}
 use Rattle.script.specs.declared.reading.Call.{Call}
 use Rattle.script.specs.declared.reading.Call.TheVariants as code
+use Rattle.script.proofs.Splitting.{word_short, some_word}
 
 -- ---- blank lines
 
 blank : (l : List ℕ) → unindented l ≡ [] → is_blank l ≡ true
-unfolding is_blank all unindented
+unfolding is_blank unindented
 blank [] = λ _. refl
 blank (x ∷ l) = go (eqb x space) (blank l)
   where
@@ -29,7 +29,7 @@ blank (x ∷ l) = go (eqb x space) (blank l)
     go false h e = let z : ◌≡◌ {A = ℕ} 0 1 = cc in absurd (omega arith)
 
 pub not_blank : (l : List ℕ) → 0 < length (unindented l) → is_blank l ≡ false
-unfolding is_blank all unindented
+unfolding is_blank unindented
 not_blank [] = λ h. absurd (omega arith)
 not_blank (x ∷ l) = go (eqb x space) (not_blank l)
   where
@@ -53,28 +53,41 @@ silent_comment line h e = record { is = rw (comment line h e, or-true (is_blank 
 
 -- ---- a line by its first word
 
-module _ {line : List ℕ} {w : Word} (n : NextWord line 0 w) where
-  pub silent_blank : w.start ≡ w.end → ReadAs line code.Silent
+pub silent_blank : (line : List ℕ) → unindented line ≡ [] → ReadAs line code.Silent
+unfolding line_of
+silent_blank line e = record { is = rw (blank line e); inside = tt }
+
+module _ {line verb rest : List ℕ} (f : FirstWord line verb rest) (s : get_or line 0 0 ≡ hash → ⊥) where
+  not_silent : is_blank line ≡ false
+  not_silent = not_blank line (omega (arith, some_word f))
+
+  pub too_long : longest_call < length line → ReadAs line code.NoCall
   unfolding line_of
-  silent_blank e =
-      let past : length line ≤ w.start = omega (arith, n.last e) in
-      record { is = rw (blank line (n.indent ∙ drop_of_length-le line past)); inside = tt }
+  too_long h = record { is = rw (not_silent, no_comment line s, lt-leb (length line) longest_call h); inside = tt }
 
-  module _ (d : w.start ≡ w.end → ⊥) (s : get_or line 0 0 ≡ hash → ⊥) where
-    not_silent : is_blank line ≡ false
-    not_silent = not_blank line (omega (arith, d, n.ordered, n.inside, ap length n.indent, length-drop w.start line))
+  behind_word : drop (length verb) (unindented line) ≡ rest
+  behind_word = rw f.is (drop-append_seam verb rest)
 
-    pub too_long : longest_call < length line → ReadAs line code.NoCall
-    unfolding line_of
-    too_long h = record { is = rw (not_silent, no_comment line s, lt-leb (length line) longest_call h); inside = tt }
-
-    behind_word : drop (length (between w.start w.end line)) (drop w.start line) ≡ drop w.end line
-    behind_word =
-        let size = length-take-le (w.end - w.start) (drop w.start line) (omega (arith, n.inside, length-drop w.start line)) in
-        drop-drop (length (between w.start w.end line)) w.start line
-        ∙ ap (λ (k : ℕ). drop k line) {x = w.start + length (between w.start w.end line)} {y = w.end} (omega (arith, size, n.ordered))
-
-    pub read_call : length line ≤ longest_call → {r : Call} → Arguments (verb_of (between w.start w.end line)) line w.end r → ReadAs line r
-    unfolding line_of command_in
-    read_call h {r} m =
-        rw (not_silent, no_comment line s, le-leb (length line) longest_call h, n.indent, n.word (omega (arith, d, n.ordered)), behind_word) m
+  pub read_call : length line ≤ longest_call → (r : Option Call) → Arguments (verb_of verb) rest r → ReadAs line (unwrap_or r code.NoCall)
+  unfolding line_of command_in
+  read_call h r m =
+      let whole : Means line (or_none (command_by (verb_of verb) rest (words_of rest))) (unwrap_or r code.NoCall) =
+      record { is = m.is; inside = longer (unwrap_or r code.NoCall) m.inside } in
+      rw (not_silent, no_comment line s, le-leb (length line) longest_call h, f.words, behind_word) whole
+    where
+      longer : (call : Call) → Inside rest call → Inside line call
+      longer code.Silent i = i
+      longer code.NoCall i = i
+      longer (code.Open n) i = i
+      longer (code.Text t) i = i
+      longer (code.Flat left right) i = i
+      longer (code.Implication a b c) i = i
+      longer (code.Ask a g) i = i
+      longer (code.Page words) i = i
+      longer (code.Mark j) i = i
+      longer (code.Return j) i = i
+      longer code.Length i = i
+      longer code.Sheet i = i
+      longer (code.Check digits) i = omega (arith, i, (word_short f).1)
+      longer (code.Mean a) i = i
+      longer (code.Screen t) i = i

@@ -3,33 +3,17 @@ use mathlib.Core.Bool.{Bool, true, false, cond}
 use mathlib.Core.List.{List, [], ◌∷◌, ◌++◌}
 use mathlib.Core.Logic.{◌⊎◌, inl, inr}
 use mathlib.Core.Path.{◌≡◌, refl, sym, ap, ap₂, ◌∙◌, subst}
-use Prim.Native.Nat.{ℕ, zero, suc, ◌+◌, ◌-◌, ◌≤◌, ◌<◌}
+use Prim.Native.Nat.{ℕ, zero, suc, ◌≤◌, ◌<◌}
 use native.Mathlib.Decide.{dec_lt}
-use native.Mathlib.Numerals.{add-one}
 use native.Mathlib.Omega.{arith}
 use lib.Dec.{eqb}
-use lib.ListN.{length, take, drop, get_or, replicate, take-append-drop, length-take, length-drop, drop_of_length-le}
-use lib.Seq.{drop-cons, drop-drop, drop-append_seam}
-use borrow.Author.Tests.{eq-eqb, ne_eqb, eqb-true}
+use lib.ListN.{length, take, drop, replicate, take-append-drop, length-take, length-append}
+use lib.Seq.{drop-append_seam}
+use borrow.Author.Tests.{eqb-true}
 use Rattle.atoms.proofs.Truth.{by_cond}
 use Rattle.ipl.specs.Lists.{All}
 use Rattle.script.specs.Words.{space, before, split, filled, words_of, unindented}
-use Rattle.script.specs.Places.{index_of, index_after, between, Indent, NextWord}
-
--- ---- spaces before a word
-
-module _ (line : List ℕ) (i : ℕ) (inside : i < length line) where
-  pub past_space : get_or line i 0 ≡ space → unindented (drop i line) ≡ unindented (drop (i + 1) line)
-  unfolding unindented
-  past_space e = rw (add-one, drop-cons line i 0, eq-eqb (get_or line i 0) space e)
-
-  pub at_word : (get_or line i 0 ≡ space → ⊥) → unindented (drop i line) ≡ drop i line
-  unfolding unindented
-  at_word d = rw (drop-cons line i 0, ne_eqb (get_or line i 0) space d)
-
-pub at_end : (line : List ℕ) (i : ℕ) → length line ≤ i → unindented (drop i line) ≡ drop i line
-unfolding unindented
-at_end line i h = rw (drop_of_length-le line h)
+use Rattle.script.specs.Parts.{index_of, index_after, FirstWord}
 
 -- ---- a word and the words behind it
 
@@ -38,6 +22,10 @@ unfolding words_of split unindented
 words_unindented [] = refl
 words_unindented (x ∷ l) =
     by_cond (λ (m : List ℕ). words_of m ≡ words_of (x ∷ l)) (eqb x space) (unindented l) (x ∷ l) (λ e. rw e (words_unindented l)) (λ _. refl)
+
+pub no_words : (line : List ℕ) → unindented line ≡ [] → words_of line ≡ []
+unfolding words_of split
+no_words line e = sym (words_unindented line) ∙ ap words_of e
 
 abbrev behind : List (List ℕ) → List (List ℕ)
 behind [] = []
@@ -95,38 +83,40 @@ no_word (x ∷ l) =
     (λ _. no_word l)
     (λ d e. let h : suc (index_of space l) ≡ 0 = rw d at e in absurd (omega arith))
 
--- ---- the places of a word
+-- ---- the code's cut
 
-module _ (line : List ℕ) (from start end : ℕ) (i : Indent line from start) (e : end ≡ start + index_of space (drop start line)) where
-  length_is : index_of space (drop start line) ≡ end - start
-  length_is = omega (arith, e)
+pub first_split : (line rest word : List ℕ) (end : ℕ) → rest ≡ unindented line → end ≡ index_of space rest → 0 < end → word ≡ take end rest
+    → FirstWord line word (drop end rest)
+first_split line rest word end u e some w = record {
+  words = sym (words_unindented line) ∙ ap words_of (sym u) ∙ first_word rest (omega (arith, e)) ∙ rw (← e, w);
+  is = rw (← u, w) (sym (take-append-drop end rest));
+}
 
-  words_from : words_of (drop from line) ≡ words_of (drop start line)
-  words_from = sym (words_unindented (drop from line)) ∙ ap words_of i.is
+unindented_short : (l : List ℕ) → length (unindented l) ≤ length l
+unfolding unindented
+unindented_short [] = omega arith
+unindented_short (x ∷ l) =
+    by_cond (λ (m : List ℕ). length m ≤ length (x ∷ l)) (eqb x space) (unindented l) (x ∷ l) (λ _. omega (arith, unindented_short l)) (λ _. omega arith)
 
-  found : start < end → words_of (drop from line) ≡ between start end line ∷ words_of (drop end line)
-  found h =
-      let k : ℕ = index_of space (drop start line) in
-      words_from
-      ∙ first_word (drop start line) (omega (arith, length_is))
-      ∙ ap (λ (l : List ℕ). take k (drop start line) ∷ words_of l) (drop-drop k start line)
-      ∙ ap (λ (n : ℕ). take n (drop start line) ∷ words_of (drop (start + n) line)) length_is
-      ∙ ap (λ (n : ℕ). between start end line ∷ words_of (drop n line)) {x = start + (end - start)} {y = end} (omega arith)
+-- Neither part is longer than the line.
+pub word_short : {line word rest : List ℕ} → FirstWord line word rest → (length word ≤ length line) × (length rest ≤ length line)
+word_short {line} {word} {rest} f =
+    let parts = simp length-append at (ap length f.is) in
+    (omega (arith, parts, unindented_short line), omega (arith, parts, unindented_short line))
 
-  exhausted : start ≡ end → drop start line ≡ []
-  exhausted h = sym i.is ∙ no_word (drop from line) (ap (index_of space) i.is ∙ length_is ∙ omega arith)
+pub some_word : {line word rest : List ℕ} → FirstWord line word rest → 0 < length (unindented line)
+unfolding words_of split
+some_word {line} {word} {rest} f = by_line (unindented line) (words_unindented line ∙ f.words)
+  where
+    by_line : (l : List ℕ) → words_of l ≡ word ∷ words_of rest → 0 < length l
+    by_line [] e = let z : ◌≡◌ {A = ℕ} 0 1 = cc in absurd (omega arith)
+    by_line (x ∷ l) e = omega arith
 
-  pub next_word : end ≤ length line → NextWord line from (record { start = start; end = end })
-  unfolding words_of split
-  next_word inside =
-      record {
-        ordered = omega arith;
-        inside = inside;
-        indent = i.is;
-        word = found;
-        nothing = λ h. words_from ∙ ap words_of (exhausted h);
-        last = λ h. omega (arith, length-drop start line, ap length (exhausted h));
-      }
+pub some_byte : {line word rest : List ℕ} → FirstWord line word rest → 0 < length line
+some_byte {line} f = omega (arith, some_word f, unindented_short line)
+
+pub none_split : (line rest : List ℕ) → rest ≡ unindented line → index_of space rest ≡ 0 → unindented line ≡ []
+none_split line rest u e = no_word line (rw (← u) e)
 
 -- ---- a line by its first word
 
@@ -158,12 +148,12 @@ at_index b (x ∷ l) = go (eqb x b) refl (at_index b l)
     go false e h = h
 
 -- A line's first word, and what follows it.
-pub record FirstWord (line verb : List ℕ) : Type 0 where
+pub record Verbed (line verb : List ℕ) : Type 0 where
   pub rest : List ℕ
   pub is : unindented line ≡ verb ++ rest
   pub starts : (rest ≡ []) ⊎ ((more : List ℕ) × (rest ≡ space ∷ more))
 
-pub first : (line verb : List ℕ) (ws : List (List ℕ)) → words_of line ≡ verb ∷ ws → FirstWord line verb
+pub first : (line verb : List ℕ) (ws : List (List ℕ)) → words_of line ≡ verb ∷ ws → Verbed line verb
 unfolding words_of split
 first line verb ws e = elim (dec_lt 0 (index_of space (unindented line))) [
   | yes h ↦
@@ -184,7 +174,7 @@ first line verb ws e = elim (dec_lt 0 (index_of space (unindented line))) [
     e' : verb ∷ ws ≡ words_of (unindented line)
     e' = sym e ∙ sym (words_unindented line)
 
-pub behind_first : {line verb : List ℕ} (f : FirstWord line verb) → drop (length verb) (unindented line) ≡ f.rest
+pub behind_first : {line verb : List ℕ} (f : Verbed line verb) → drop (length verb) (unindented line) ≡ f.rest
 behind_first {verb = verb} f = ap (drop (length verb)) f.is ∙ drop-append_seam verb f.rest
 
 -- No word is empty.

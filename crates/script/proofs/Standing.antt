@@ -1,5 +1,6 @@
 -- A session is the state of a script: what the contracts make of it, and what is printed, is what the definitions make of the state.
-use mathlib.Core.Bool.{true, false, cond}
+use mathlib.Core.Bool.{true, false, cond, false≢true}
+use Rattle.std.specs.Prelude.{Result, Ok, Err, IsOk}
 use mathlib.Core.List.{List}
 use mathlib.Core.Option.{Option, none}
 use mathlib.Core.Path.{◌≡◌, refl, sym, ap, ◌∙◌, subst}
@@ -25,14 +26,14 @@ use Rattle.prover.specs.Page.{goals_of, PageAnswered}
 use Rattle.prover.specs.Demand as made
 use Rattle.prover.specs.Demand.{PageReturned}
 use Rattle.prover.specs.declared.Session.{Session}
-use Rattle.prover.specs.declared.Changed.{Changed}
-use Rattle.prover.specs.declared.Answered.{Answered}
+use Rattle.prover.specs.Told.{number_in, place_in, Changed, Answered}
 use Rattle.prover.specs.declared.GoalRecord.{GoalRecord}
 use Rattle.prover.proofs.Works.{Bounded, none_bounded, with_bounded}
 use Rattle.prover.proofs.Keeping.{ByBook, dropped_kept, set_kept, asked_as}
 use Rattle.prover.proofs.PageRuns.{page_answer, page_unchanged}
 use Rattle.prover.proofs.DemandThree.{call_kept}
 use Rattle.prover.proofs.Counts.{changed_work, call_work}
+use Rattle.refusal.specs.declared.Refusal.{Refusal}
 use Rattle.syntax.specs.Refusal.{Refused, line_1, line_2, line_3, line_4}
 use Rattle.syntax.specs.Judge as text
 use Rattle.syntax.proofs.Judge.{judge_right}
@@ -93,16 +94,20 @@ number_told_lem (line_2 a b) = refl
 number_told_lem (line_3 a b c d) = refl
 number_told_lem (line_4 a b c d) = refl
 
+read_lem : (r : Result Unit Refusal) → IsOk r → number_in r ≡ 0
+read_lem (Ok x) h = refl
+read_lem (Err e) h = absurd (false≢true h)
+
 module _ (t : List ℕ) (r : Clausified) where
-  clausified_line_lem : (j : text.Judgement) → text.Right t j → ClausifiedAs j r → clausified_line r.refusal r.place r.goal ≡ text_line j
+  clausified_line_lem : (j : text.Judgement) → text.Right t j → ClausifiedAs j r → clausified_line (number_in r.read) (place_in r.read) r.goal ≡ text_line j
   clausified_line_lem (text.refused number place) right h = rw (h.0, h.1, number_told_lem right)
-  clausified_line_lem (text.accepted f) right h = rw (h.0, h.2.goal)
+  clausified_line_lem (text.accepted f) right h = rw (read_lem r.read h.0, h.1.goal)
 
   text_reaches : (j : text.Judgement) → text.Right t j → ClausifiedAs j r
-      → Reaches (fresh (book_of j)) (text_line j) r.session (clausified_line r.refusal r.place r.goal)
+      → Reaches (fresh (book_of j)) (text_line j) r.session (clausified_line (number_in r.read) (place_in r.read) r.goal)
   text_reaches (text.refused number place) right h =
       fresh_reached (opened_reached 1) h.2.clauses h.2.nothing (clausified_line_lem (text.refused number place) right h)
-  text_reaches (text.accepted f) right h = fresh_reached (text_reached f) h.2.clauses h.2.nothing (clausified_line_lem (text.accepted f) right h)
+  text_reaches (text.accepted f) right h = fresh_reached (text_reached f) h.1.clauses h.1.nothing (clausified_line_lem (text.accepted f) right h)
 
 -- ---- calls of the book
 

@@ -11,21 +11,21 @@ use Rattle.prover.specs.declared.GoalAnswer.TheVariants as goal
 use Rattle.prover.specs.declared.GoalRecord.{GoalRecord}
 use Rattle.prover.specs.declared.Worlds.{Worlds}
 use Rattle.prover.specs.declared.Session.{Session}
-use Rattle.prover.specs.declared.Changed.{Changed}
-use Rattle.prover.specs.declared.Answered.{Answered}
+use Rattle.prover.specs.Told.{number_in, place_in, Changed, Answered}
+use Rattle.refusal.specs.Numbers.{number_of}
 use Rattle.syntax.specs.Judge as text
 use Rattle.clausify.specs.Calls.{ClausifiedAs}
 use Rattle.clausify.specs.declared.Clausified.{Clausified}
 use Rattle.certificate.specs.Judge as sheets
 use Rattle.certify.specs.Held.{certificate_held}
 use Rattle.certify.specs.Written.{length_told}
-use Rattle.text.specs.Output.{Appends}
+use Rattle.text.specs.declared.draft.Draft.{Draft}
+use Rattle.text.specs.Output.{Appends, Started}
 use Rattle.judgement.specs.Report.{check_report}
 use Rattle.certificate.specs.Format.{each}
 use Rattle.report.specs.Report.{world_line, text_refusal, report_by}
 use Rattle.report.specs.Screening.{screen_line}
 use Rattle.script.specs.Command.{Command, open_session, read_text, call_book, tell_length, write_sheet, check_sheet, tell_mean, screen_text, Line, silent, command, no_call}
-use Rattle.script.specs.declared.answers.Answer.{Answer}
 use Rattle.script.specs.Reading.{goal_room}
 use Rattle.script.specs.State.{refused_line, changed_line, goal_line, length_line, sheet_line, mean_line, figured_line, no_call_line}
 
@@ -43,7 +43,7 @@ answer_lines i goal.Open W = []
 answer_lines i (goal.Valid steps) W = figured_line i " valid " steps
 answer_lines i (goal.Refuted worlds) W = figured_line i " refuted " worlds ++ each world_line (worlds_of W)
 answer_lines i (goal.RefutedBy j) W = figured_line i " refuted by " j
-answer_lines i (goal.Refused number) W = figured_line i " refused " number
+answer_lines i (goal.Refused e) W = figured_line i " refused " (number_of e)
 
 abbrev pub record_lines : ℕ → GoalRecord → List ℕ
 record_lines i y = answer_lines i y.answer y.worlds
@@ -70,7 +70,7 @@ CallDone s (question a g) after printed = (r : Answered) × Asked s a g r × (af
 
 abbrev pub CommandDone : Session → Command → Session → List ℕ → Type 0
 CommandDone s (open_session n) after printed = ChangeDone (Opened n) after printed
-CommandDone s (read_text t) after printed = (r : Clausified) × ClausifiedAs (text.judge t) r × (after ≡ r.session) × (printed ≡ clausified_line r.refusal r.place r.goal)
+CommandDone s (read_text t) after printed = (r : Clausified) × ClausifiedAs (text.judge t) r × (after ≡ r.session) × (printed ≡ clausified_line (number_in r.read) (place_in r.read) r.goal)
 CommandDone s (call_book c) after printed = CallDone s c after printed
 CommandDone s tell_length after printed = (after ≡ s) × (printed ≡ length_line (length_told s))
 CommandDone s write_sheet after printed = (after ≡ s) × (printed ≡ held_line s)
@@ -84,9 +84,18 @@ LineDone s number silent after printed = (after ≡ s) × (printed ≡ [])
 LineDone s number (command c) after printed = CommandDone s c after printed
 LineDone s number no_call after printed = (after ≡ s) × (printed ≡ no_call_line number)
 
+-- The session after a line, and how many bytes are printed of it.
+pub record Answer : Type 0 where
+  pub session : Session
+  pub length : ℕ
+
 -- What was done is written at the start of the output, as much of it as there is room for.
 abbrev pub Writes : (Session → List ℕ → Type 0) → List ℕ → List ℕ → Answer → Type 0
-Writes Done entry exit r = (printed : List ℕ) × Done r.session printed × Appends printed entry 0 exit r.length
+Writes Done entry exit r = (printed : List ℕ) × Done r.session printed × Started printed entry exit r.length
+
+-- The same in a draft, after what stands there.
+abbrev pub Adds : (Session → List ℕ → Type 0) → Draft → Draft → Session → Type 0
+Adds Done before after s = (printed : List ℕ) × Done s printed × Appends printed before after
 
 -- How many bytes of a line are kept: one more than a call has, which tells that it is longer.
 abbrev pub line_room : ℕ

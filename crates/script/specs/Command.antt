@@ -1,8 +1,7 @@
 -- From a line's bytes to a call.
-use Rattle.std.specs.Prelude.{Bool, true, false, cond, ◌&&◌, ◌||◌, List, [], ◌∷◌, ℕ, ◌^◌, eqb, leb, length, drop}
-use Rattle.std.proofs.Math.Option.{Option, none, some, bind, map}
+use Rattle.std.specs.Prelude.{Bool, true, false, cond, ◌&&◌, ◌||◌, List, [], ◌∷◌, ℕ, ◌^◌, eqb, leb, length, drop, Option, None, Some, option_map, option_and_then}
 use Rattle.atoms.specs.Sets.{limit}
-use Rattle.ipl.specs.Lists.{all}
+use Rattle.std.specs.List.{list_all}
 use Rattle.ipl.specs.Authors.{program}
 use Rattle.ipl.specs.Book.{add_flat, add_implication, Call, add, question, set_mark, return_to, page}
 use Rattle.text.specs.Text.{ascii}
@@ -61,24 +60,24 @@ set_in = number_below (2 ^ limit)
 
 -- One more argument, which is a number.
 abbrev pub argument : (List ℕ → Option ℕ) → (ℕ → List (List ℕ) → Option Command) → List (List ℕ) → Option Command
-argument number further [] = none
-argument number further (w ∷ ws) = bind (number w) (λ x. further x ws)
+argument number further [] = None
+argument number further (w ∷ ws) = option_and_then (λ x. further x ws) (number w)
 
 -- No further argument.
 abbrev pub end : Command → List (List ℕ) → Option Command
-end c [] = some c
-end c (w ∷ ws) = none
+end c [] = Some c
+end c (w ∷ ws) = None
 
 -- One argument, which is a byte.
 abbrev pub only_byte : List (List ℕ) → Option ℕ
-only_byte [] = none
+only_byte [] = None
 only_byte (w ∷ []) = byte_in w
-only_byte (w ∷ v ∷ ws) = none
+only_byte (w ∷ v ∷ ws) = None
 
 -- "`by A`" at the line's end; "author 0 without `by`".
 abbrev pub author_in : List (List ℕ) → Option ℕ
-author_in [] = some program
-author_in (w ∷ ws) = cond (same w (ascii "by")) (only_byte ws) none
+author_in [] = Some program
+author_in (w ∷ ws) = cond (same w (ascii "by")) (only_byte ws) None
 
 -- "Any number of goals may stand in a line", and then the author.
 pub record GoalList : Type 0 where
@@ -87,16 +86,16 @@ pub record GoalList : Type 0 where
 
 -- These goals and their author, if there is one.
 abbrev pub authored : List ℕ → Option ℕ → Option GoalList
-authored gs o = map (λ a. record { author = a; goals = gs }) o
+authored gs o = option_map (λ a. record { author = a; goals = gs }) o
 
 -- A goal before the others.
 abbrev pub one_goal_more : ℕ → Option GoalList → Option GoalList
-one_goal_more g o = map (λ p. record { author = p.author; goals = g ∷ p.goals }) o
+one_goal_more g o = option_map (λ p. record { author = p.author; goals = g ∷ p.goals }) o
 
 -- A word that is a goal, and further ones; or the last words, which are the author.
 abbrev pub goal_or : Option ℕ → Option GoalList → Option GoalList → Option GoalList
-goal_or (some g) further last = one_goal_more g further
-goal_or none further last = last
+goal_or (Some g) further last = one_goal_more g further
+goal_or None further last = last
 
 abbrev pub page_in : List (List ℕ) → Option GoalList
 page_in [] = authored [] (author_in [])
@@ -104,31 +103,31 @@ page_in (w ∷ ws) = goal_or (byte_in w) (page_in ws) (authored [] (author_in (w
 
 -- "None at all is the empty sheet."
 abbrev pub sheet_argument : List (List ℕ) → Option Command
-sheet_argument [] = some (check_sheet [])
-sheet_argument (w ∷ ws) = bind (bytes_in w) (λ bytes. end (check_sheet bytes) ws)
+sheet_argument [] = Some (check_sheet [])
+sheet_argument (w ∷ ws) = option_and_then (λ bytes. end (check_sheet bytes) ws) (bytes_in w)
 
 -- By the first word: what follows it in the line, and the words there.
 abbrev pub command_by : Verb → List ℕ → List (List ℕ) → Option Command
-command_by Open rest ws = map open_session (only_byte ws)
+command_by Open rest ws = option_map open_session (only_byte ws)
 -- "All after the first space behind `text`, as it stands, to the line's end; `text` alone is the empty text."
-command_by Text rest ws = some (read_text (drop 1 rest))
+command_by Text rest ws = Some (read_text (drop 1 rest))
 command_by Flat rest ws = argument set_in (λ left. argument set_in (λ right. end (call_book (add (add_flat (record { left = left; right = right })))))) ws
 command_by Implication rest ws =
     argument byte_in (λ a. argument byte_in (λ b. argument byte_in (λ c. end (call_book (add (add_implication (record { a = a; b = b; c = c }))))))) ws
-command_by Ask rest ws = argument byte_in (λ g further. map (λ a. call_book (question a g)) (author_in further)) ws
-command_by Page rest ws = map (λ p. call_book (page p.author p.goals)) (page_in ws)
-command_by Mark rest ws = map (λ j. call_book (set_mark j)) (only_byte ws)
-command_by Return rest ws = map (λ j. call_book (return_to j)) (only_byte ws)
+command_by Ask rest ws = argument byte_in (λ g further. option_map (λ a. call_book (question a g)) (author_in further)) ws
+command_by Page rest ws = option_map (λ p. call_book (page p.author p.goals)) (page_in ws)
+command_by Mark rest ws = option_map (λ j. call_book (set_mark j)) (only_byte ws)
+command_by Return rest ws = option_map (λ j. call_book (return_to j)) (only_byte ws)
 command_by Length rest ws = end tell_length ws
 command_by Sheet rest ws = end write_sheet ws
 command_by Check rest ws = sheet_argument ws
-command_by Mean rest ws = map tell_mean (only_byte ws)
+command_by Mean rest ws = option_map tell_mean (only_byte ws)
 -- "As for `text`."
-command_by Screen rest ws = some (screen_text (drop 1 rest))
-command_by Other rest ws = none
+command_by Screen rest ws = Some (screen_text (drop 1 rest))
+command_by Other rest ws = None
 
 abbrev pub command_from : List ℕ → List (List ℕ) → Option Command
-command_from line [] = none
+command_from line [] = None
 command_from line (verb ∷ ws) = command_by (verb_of verb) (drop (length verb) line) ws
 
 unfoldable pub command_in : List ℕ → Option Command
@@ -138,7 +137,7 @@ command_in line = command_from (unindented line) (words_of line)
 
 -- "A line of spaces alone, or whose first byte is `#`, prints nothing, whatever its length."
 unfoldable pub is_blank : List ℕ → Bool
-is_blank = all (λ b. eqb b space)
+is_blank = list_all (λ b. eqb b space)
 
 abbrev pub hash : ℕ
 hash = 35
@@ -152,8 +151,8 @@ abbrev pub longest_call : ℕ
 longest_call = 32768
 
 abbrev pub or_none : Option Command → Line
-or_none none = no_call
-or_none (some c) = command c
+or_none None = no_call
+or_none (Some c) = command c
 
 unfoldable pub line_of : List ℕ → Line
 line_of line = cond (is_blank line || is_comment line) silent (cond (leb (length line) longest_call) (or_none (command_in line)) no_call)

@@ -3,7 +3,7 @@ pub mod Words
 pub mod Numbers
 pub mod Command
 pub mod Language
-pub mod Places
+pub mod Parts
 pub mod Reading
 pub mod State
 pub mod Transcript

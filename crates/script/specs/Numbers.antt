@@ -1,7 +1,6 @@
 -- The numbers and the bytes that words stand for.
-use Rattle.std.specs.Prelude.{Bool, cond, ◌&&◌, ◌||◌, List, [], ◌∷◌, ℕ, ◌+◌, ◌-◌, ◌*◌, ◌%◌, eqb, leb, ltb, length}
-use Rattle.std.proofs.Math.Option.{Option, none, some}
-use Rattle.ipl.specs.Lists.{all}
+use Rattle.std.specs.Prelude.{Bool, cond, ◌&&◌, ◌||◌, List, [], ◌∷◌, ℕ, ◌+◌, ◌-◌, ◌*◌, ◌%◌, eqb, leb, ltb, length, Option, None, Some}
+use Rattle.std.specs.List.{list_all}
 
 unfoldable pub is_digit : ℕ → Bool
 is_digit b = leb 48 b && leb b 57
@@ -13,7 +12,7 @@ value_from x (b ∷ word) = value_from (10 * x + (b - 48)) word
 
 -- "Numbers are decimal digits", of a value below a bound.
 unfoldable pub number_below : ℕ → List ℕ → Option ℕ
-number_below bound word = cond (all is_digit word && ltb (value_from 0 word) bound) (some (value_from 0 word)) none
+number_below bound word = cond (list_all is_digit word && ltb (value_from 0 word) bound) (Some (value_from 0 word)) None
 
 -- "Small digits": `0` to `9`, `a` to `f`.
 unfoldable pub is_hex_letter : ℕ → Bool
@@ -34,4 +33,4 @@ paired (high ∷ low ∷ word) = (16 * hex_value high + hex_value low) ∷ paire
 
 -- "An odd number of them or another byte is no call."
 unfoldable pub bytes_in : List ℕ → Option (List ℕ)
-bytes_in word = cond (all is_hex_digit word && eqb (length word % 2) 0) (some (paired word)) none
+bytes_in word = cond (list_all is_hex_digit word && eqb (length word % 2) 0) (Some (paired word)) None

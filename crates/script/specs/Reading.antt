@@ -1,6 +1,5 @@
 -- The contract of the reading of a line.
-use Rattle.std.specs.Prelude.{true, false, List, ◌≡◌, ℕ, ◌+◌, ◌≤◌, min, length, take, drop}
-use Rattle.std.proofs.Math.Option.{Option, none, some, map}
+use Rattle.std.specs.Prelude.{List, ◌≡◌, ℕ, ◌+◌, ◌≤◌, min, length, take, Option, Some, None, option_map, unwrap_or, MatchOption}
 use Rattle.ipl.specs.Page.{goal_table}
 use Rattle.ipl.specs.Book.{add_flat, add_implication, add, question, set_mark, return_to, page}
 use Rattle.prover.specs.Calls.{flat_of}
@@ -8,7 +7,6 @@ use Rattle.script.specs.Numbers.{paired}
 use Rattle.script.specs.Words.{words_of}
 use Rattle.script.specs.Command.{Command, Line, silent, command, no_call, open_session, read_text, call_book, tell_length, write_sheet, check_sheet, tell_mean, screen_text}
 use Rattle.script.specs.Command.{end, GoalList, page_in, command_by, or_none, line_of}
-use Rattle.script.specs.Places.{between}
 use Rattle.script.specs.declared.reading.Goals.{Goals}
 use Rattle.script.specs.declared.reading.Verb.{Verb}
 use Rattle.script.specs.declared.reading.Call.{Call}
@@ -21,80 +19,72 @@ abbrev pub goal_room : ℕ
 goal_room = goal_table + 1
 
 pub record GoalsAre (gs : List ℕ) (t : Goals) : Type 0 where
-  pub complete : t.complete ≡ true
   pub size : t.count ≡ min (length gs) goal_room
   pub first : take t.count t.rows ≡ take goal_room gs
 
 -- The words are goals and their author, and these are they; or they are not.
-abbrev pub GoalsRead : Option GoalList → Goals → Type 0
-GoalsRead none t = t.complete ≡ false
-GoalsRead (some p) t = GoalsAre p.goals t × (t.author ≡ p.author)
+abbrev pub GoalsRead : Option GoalList → Option Goals → Type 0
+GoalsRead o r = MatchOption r (o ≡ None) (λ t. (p : GoalList) × (o ≡ Some p) × GoalsAre p.goals t × (t.author ≡ p.author))
 
 abbrev pub page_of : Option GoalList → Line
-page_of o = or_none (map (λ p. call_book (page p.author p.goals)) o)
+page_of o = or_none (option_map (λ p. call_book (page p.author p.goals)) o)
 
--- What a value of the code says of a line: a text starts at a place, a sheet's digits stand between two places.
-abbrev pub meaning : List ℕ → Call → Line
-meaning line code.Silent = silent
-meaning line code.NoCall = no_call
-meaning line (code.Open n) = command (open_session n)
-meaning line (code.Text start) = command (read_text (drop start line))
-meaning line (code.Flat left right) = command (call_book (add (add_flat (flat_of left right))))
-meaning line (code.Implication a b c) = command (call_book (add (add_implication (record { a = a; b = b; c = c }))))
-meaning line (code.Ask a g) = command (call_book (question a g))
-meaning line (code.Page start) = page_of (page_in (words_of (drop start line)))
-meaning line (code.Mark j) = command (call_book (set_mark j))
-meaning line (code.Return j) = command (call_book (return_to j))
-meaning line code.Length = command tell_length
-meaning line code.Sheet = command write_sheet
-meaning line (code.Check start end) = command (check_sheet (paired (between start end line)))
-meaning line (code.Mean a) = command (tell_mean a)
-meaning line (code.Screen start) = command (screen_text (drop start line))
+-- What a value of the code says.
+abbrev pub meaning : Call → Line
+meaning code.Silent = silent
+meaning code.NoCall = no_call
+meaning (code.Open n) = command (open_session n)
+meaning (code.Text t) = command (read_text t.now)
+meaning (code.Flat left right) = command (call_book (add (add_flat (flat_of left right))))
+meaning (code.Implication a b c) = command (call_book (add (add_implication (record { a = a; b = b; c = c }))))
+meaning (code.Ask a g) = command (call_book (question a g))
+meaning (code.Page words) = page_of (page_in (words_of words.now))
+meaning (code.Mark j) = command (call_book (set_mark j))
+meaning (code.Return j) = command (call_book (return_to j))
+meaning code.Length = command tell_length
+meaning code.Sheet = command write_sheet
+meaning (code.Check digits) = command (check_sheet (paired digits.now))
+meaning (code.Mean a) = command (tell_mean a)
+meaning (code.Screen t) = command (screen_text t.now)
 
--- The places are in the line.
+-- The words of a page are one, and the digits are no longer than the line.
 abbrev pub Inside : List ℕ → Call → Type 0
 Inside line code.Silent = Unit {0}
 Inside line code.NoCall = Unit {0}
 Inside line (code.Open n) = Unit {0}
-Inside line (code.Text start) = start ≤ length line
+Inside line (code.Text t) = Unit {0}
 Inside line (code.Flat left right) = Unit {0}
 Inside line (code.Implication a b c) = Unit {0}
 Inside line (code.Ask a g) = Unit {0}
-Inside line (code.Page start) = (start ≤ length line) × ((p : GoalList) × (page_in (words_of (drop start line)) ≡ some p))
+Inside line (code.Page words) = (p : GoalList) × (page_in (words_of words.now) ≡ Some p)
 Inside line (code.Mark j) = Unit {0}
 Inside line (code.Return j) = Unit {0}
 Inside line code.Length = Unit {0}
 Inside line code.Sheet = Unit {0}
-Inside line (code.Check start end) = (start ≤ end) × (end ≤ length line)
+Inside line (code.Check digits) = length digits.now ≤ length line
 Inside line (code.Mean a) = Unit {0}
-Inside line (code.Screen start) = start ≤ length line
+Inside line (code.Screen t) = Unit {0}
 
 -- The calls that need large tables are calls.
 abbrev pub as_call : Large → Call
-as_call (large.Text start) = code.Text start
-as_call (large.Page start) = code.Page start
+as_call (large.Text t) = code.Text t
+as_call (large.Page words) = code.Page words
 as_call large.Sheet = code.Sheet
-as_call (large.Check start end) = code.Check start end
-as_call (large.Screen start) = code.Screen start
+as_call (large.Check digits) = code.Check digits
+as_call (large.Screen t) = code.Screen t
 
 -- The value says what a line is.
 pub record Means (line : List ℕ) (l : Line) (r : Call) : Type 0 where
-  pub is : meaning line r ≡ l
+  pub is : meaning r ≡ l
   pub inside : Inside line r
 
 abbrev pub ReadAs : List ℕ → Call → Type 0
 ReadAs line r = Means line (line_of line) r
 
--- The same of a call by its verb, whose word ends at a place.
-abbrev pub Arguments : Verb → List ℕ → ℕ → Call → Type 0
-Arguments verb line from r = Means line (or_none (command_by verb (drop from line) (words_of (drop from line)))) r
-
--- A text starts at a place: one space behind the word that ends at another.
-pub record Behind (line : List ℕ) (from r : ℕ) : Type 0 where
-  pub rest_is : drop r line ≡ drop 1 (drop from line)
-  pub inside : r ≤ length line
+-- The same of a call by its verb, and what follows its word.
+abbrev pub Arguments : Verb → List ℕ → Option Call → Type 0
+Arguments verb line r = Means line (or_none (command_by verb line (words_of line))) (unwrap_or r code.NoCall)
 
 -- A call is complete where no word follows.
-pub record Completes (line : List ℕ) (from : ℕ) (call r : Call) : Type 0 where
-  pub is : (c : Command) → meaning line call ≡ command c → meaning line r ≡ or_none (end c (words_of (drop from line)))
-  pub inside : Inside line call → Inside line r
+pub record Completes (line : List ℕ) (call : Call) (r : Option Call) : Type 0 where
+  pub is : MatchOption r ((c : Command) → end c (words_of line) ≡ None) (λ known. (known ≡ call) × ((c : Command) → end c (words_of line) ≡ Some c))

@@ -1,6 +1,8 @@
 -- What a script has come to, and what each call makes of it and prints: through the book.
-use Rattle.std.specs.Prelude.{false, cond, List, [], ◌∷◌, ◌++◌, ℕ, suc, eqb, length}
+use Rattle.std.specs.Prelude.{false, cond, List, [], ◌∷◌, ◌++◌, ℕ, suc, eqb, length, Result, Ok, Err}
 use Rattle.std.proofs.Math.Option.{Option, none, some}
+use Rattle.refusal.specs.declared.Refusal.{Refusal}
+use Rattle.refusal.specs.Numbers.{number_of}
 use Rattle.ipl.specs.Search.{Outcome, valid, refuted, refused, unfinished}
 use Rattle.ipl.specs.Book as B
 use Rattle.ipl.specs.Page.{Entry, searched, refuted_by}
@@ -9,8 +11,8 @@ use Rattle.ipl.specs.Work.{decided_by}
 use Rattle.prover.specs.Work.{work_at, none_done, with_all}
 use Rattle.prover.specs.Calls.{mean_refusal, mean_by}
 use Rattle.prover.specs.declared.Work.{Work}
-use Rattle.prover.specs.declared.PerVerdict.{PerVerdict}
-use Rattle.prover.specs.declared.PerVerdict.TheVariants as per-verdict
+use Rattle.prover.specs.PerVerdict as per-verdict
+use Rattle.prover.specs.PerVerdict.{PerVerdict}
 use Rattle.syntax.specs.Judge as text
 use Rattle.clausify.specs.Naming.{goal_of}
 use Rattle.clausify.specs.Demand.{book_of}
@@ -18,8 +20,6 @@ use Rattle.certificate.specs.Judge as sheets
 use Rattle.certify.specs.Held.{Certificate, bytes_of}
 use Rattle.certify.specs.Written.{told_of}
 use Rattle.certify.specs.Demand.{keeps}
-use Rattle.certify.specs.declared.Length.{Length}
-use Rattle.certify.specs.declared.Length.TheVariants.{Bytes, Refused}
 use Prim.Native.String.{String}
 use Rattle.text.specs.Text as T
 use Rattle.text.specs.Text.{ascii, labelled, hex}
@@ -72,9 +72,9 @@ text_line (text.refused number place) = text_refusal number place
 text_line (text.accepted t) = goal_line (goal_of t)
 
 -- "`length N` or `refused K`."
-abbrev pub length_line : Length → List ℕ
-length_line (Bytes size) = labelled "length " size ++ ascii "\n"
-length_line (Refused number) = refused_line number
+abbrev pub length_line : Result ℕ Refusal → List ℕ
+length_line (Ok size) = labelled "length " size ++ ascii "\n"
+length_line (Err e) = refused_line (number_of e)
 
 -- "`sheet HEX`, two small digits a byte; or `refused K`."
 abbrev pub digits_line : List ℕ → List ℕ

@@ -1,6 +1,6 @@
 // Bytes compared, and a byte looked for.
-ghost use Rattle.std.specs.Prelude.{true, ◌≡◌, ◌+◌, ◌≤◌, length, drop};
-ghost use Rattle.script.specs.Places.{index_of};
+ghost use Rattle.std.specs.Prelude.{true, ◌≡◌, ◌≤◌, length};
+ghost use Rattle.script.specs.Parts.{index_of};
 
 pub fn same(a: &[u8], b: &[u8]) -> bool
     ensures equal { result ≡ true → a.now ≡ b.now }
@@ -9,18 +9,10 @@ pub fn same(a: &[u8], b: &[u8]) -> bool
     a == b
 }
 
-// The place of the first byte b from a place on; else the end.
-pub fn find(bytes: &[u8], from: usize, b: u8) -> usize
-    requires { from ≤ length bytes.now }
+// The place of the first byte b; where there is none, the length.
+pub fn find(bytes: &[u8], b: u8) -> usize
     ensures inside { result ≤ length bytes.now }
-    ensures first { result ≡ from + index_of b (drop from bytes.now) }
+    ensures first { result ≡ index_of b bytes.now }
 {
-    let mut i = from;
-    while i < bytes.len() {
-        if bytes[i] == b {
-            return i;
-        }
-        i += 1;
-    }
-    i
+    bytes.iter().position(|x| *x == b).unwrap_or(bytes.len())
 }

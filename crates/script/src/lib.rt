@@ -2,12 +2,13 @@
 // is read in pieces; of the line that has begun as many bytes are kept as a call can have.
 #![tactic(auto)]
 
-ghost use Rattle.std.specs.Prelude.{◌&&◌, ◌≡◌, min};
+ghost use Rattle.std.specs.Prelude.{◌≡◌, option_copied};
 ghost use Rattle.script.specs.Command.{is_blank};
 ghost use Rattle.script.specs.Transcript.{number_after};
 ghost use Rattle.script.specs.Pieces.{Longer, CallIs, GatheredFrom};
 
 use reading::Call;
+use text::Draft;
 
 mod answers;
 mod bytes;
@@ -31,70 +32,40 @@ pub struct Pending {
     pub blank: bool,
 }
 
-// The line after a step, the place in the piece where the step ended, and whether the line ends there.
-#[derive(Clone, Copy)]
-pub struct Gathered {
-    pub pending: Pending,
-    pub at: usize,
-    pub ended: bool,
-}
-
 impl Pending {
     // No byte has come yet.
     pub const NONE: Pending = Pending {
         length: 0,
         blank: true,
     };
+
+    // Bytes that end no line join the one that has begun.
+    fn join(&mut self, bytes: &[u8], line: &mut [u8])
+        ensures { Longer bytes.now line.old self.old line.new self.new }
+    {
+        let mut kept = Draft::resume(line, self.length);
+        kept.word(bytes);
+        self.length = kept.len();
+        self.blank = self.blank && is_blank(bytes);
+    }
 }
 
 // The number of the next line.
 pub fn number_after(number: u64) -> u64
     ensures { result ≡ number_after number }
 {
-    if number == 0xffff_ffff_ffff_ffff {
-        number
-    } else {
-        number + 1
-    }
+    number.saturating_add(1)
 }
 
+#[tactic(auto, unfolding(crate::specs::Command::is_blank))]
 fn is_blank(bytes: &[u8]) -> bool
     ensures { result ≡ is_blank bytes.now }
 {
-    let mut i = 0;
-    while i < bytes.len() {
-        if bytes[i] != b' ' {
-            return false;
-        }
-        i += 1;
-    }
-    true
-}
-
-fn still_blank(blank: bool, bytes: &[u8]) -> bool
-    ensures { result ≡ (blank && is_blank bytes.now) }
-{
-    if blank { is_blank(bytes) } else { false }
-}
-
-// Bytes that end no line join the one that has begun.
-fn join(bytes: &[u8], line: &mut [u8], p: Pending) -> Pending
-    ensures { Longer bytes.now line.old p line.new result }
-{
-    Pending {
-        length: text::word(line, p.length, bytes),
-        blank: still_blank(p.blank, bytes),
-    }
-}
-
-fn least(a: usize, b: usize) -> usize
-    ensures { result ≡ min a b }
-{
-    if a < b { a } else { b }
+    bytes.iter().all(|b| *b == b' ')
 }
 
 // The call that the line is; of one that is too long, whether it is blank or a comment.
-fn kept_call(line: &[u8], blank: bool) -> Call
+fn kept_call(line: &[u8], blank: bool) -> Call<'_>
     ensures { CallIs line.now blank result }
 {
     if blank {
@@ -110,30 +81,15 @@ fn kept_call(line: &[u8], blank: bool) -> Call
     }
 }
 
-// Goes on from a place of a piece to the end of the line that has begun, or to the piece's end. The buffer of a line has `LINE` bytes.
-pub fn gather(piece: &[u8], from: usize, line: &mut [u8], p: Pending) -> Gathered
-    ensures { GatheredFrom piece.now from line.old p line.new result }
+// Goes on in a piece to the end of the line that has begun, and returns what follows it; where no line ends in the piece, all of it
+// joins the line. The buffer of a line has `LINE` bytes.
+pub fn gather<'a>(piece: &'a [u8], line: &mut [u8], pending: &mut Pending) -> Option<&'a [u8]>
+    ensures { GatheredFrom piece.now line.old pending.old line.new pending.new (option_copied result) }
 {
-    let n = piece.len();
-    if n <= from {
-        return Gathered {
-            pending: p,
-            at: n,
-            ended: false,
-        };
+    let end = bytes::find(piece, b'\n');
+    pending.join(&piece[..end], line);
+    if end == piece.len() {
+        return None;
     }
-    let end = bytes::find(piece, from, b'\n');
-    let pending = join(&piece[from..end], line, p);
-    if end == n {
-        return Gathered {
-            pending,
-            at: n,
-            ended: false,
-        };
-    }
-    Gathered {
-        pending,
-        at: end + 1,
-        ended: true,
-    }
+    Some(&piece[end + 1..])
 }

@@ -1,148 +1,109 @@
 // The numbers and the bytes that words stand for.
-ghost use Rattle.std.specs.Prelude.{◌&&◌, ◌≡◌, ◌+◌, ◌*◌, ◌%◌, ◌^◌, ◌<◌, eqb, length};
+ghost use Rattle.std.specs.Prelude.{◌&&◌, ◌≡◌, ℕ, ◌+◌, ◌-◌, ◌*◌, ◌%◌, ◌^◌, ◌<◌, ◌≤◌, true, false, eqb, length, MatchOption, option_map};
 ghost use Rattle.atoms.specs.Sets.{limit};
 ghost use Rattle.atoms.specs.Words.{num};
-ghost use Rattle.ipl.specs.Lists.{all};
+ghost use Rattle.std.specs.List.{list_all};
 ghost use Rattle.text.specs.Output.{Appends};
-ghost use Rattle.script.specs.Numbers.{is_digit, is_hex_letter, is_hex_digit, hex_value, number_below, paired};
-ghost use Rattle.script.specs.Places.{byte_of, set_of, with_digit};
+ghost use Rattle.script.specs.Numbers.{is_digit, is_hex_digit, hex_value, number_below, paired};
 
 use atoms::AtomSet;
+use text::Draft;
 
-const MOST_BYTE: usize = 255;
+// What a word of digits can stand for: a byte, or a set.
+pub trait Number: Copy {
+    ghost value: { Self → ℕ };
 
-// A number that a byte has room for, or none.
-#[derive(Clone, Copy)]
-pub enum Byte {
-    Is(u8),
-    None,
+    ghost bound: { ℕ };
+
+    fn zero() -> Self
+        ensures { (value result ≡ 0) × (0 < bound) };
+
+    // The number with a digit behind its digits, where there is room for it.
+    fn longer(self, digit: u8) -> Option<Self>
+        ensures { MatchOption result (bound ≤ 10 * value self + digit) (λ r. (value r ≡ 10 * value self + digit) × (value r < bound)) };
 }
 
-// A number that is a set's, or none.
-#[derive(Clone, Copy)]
-pub enum Set {
-    Is(AtomSet),
-    None,
-}
+impl Number for u8 {
+    ghost value = { λ x. x };
 
-fn is_digit(b: u8) -> bool
-    ensures { result ≡ is_digit b }
-{
-    if b < b'0' { false } else { b <= b'9' }
-}
+    ghost bound = { 256 };
 
-// The number with a digit more, where the byte is one.
-fn byte_with(value: u8, b: u8) -> Byte
-    ensures { byte_of result ≡ with_digit 256 value b }
-{
-    if !is_digit(b) {
-        return Byte::None;
+    fn zero() -> u8 {
+        0
     }
-    let longer = 10 * (value as usize) + (b - b'0') as usize;
-    if MOST_BYTE < longer {
-        return Byte::None;
+
+    fn longer(self, digit: u8) -> Option<u8> {
+        self.checked_mul(10)?.checked_add(digit)
     }
-    Byte::Is(longer as u8)
 }
 
-pub fn byte_in(word: &[u8]) -> Byte
-    ensures { byte_of result ≡ number_below 256 word.now }
+impl Number for AtomSet {
+    ghost value = { num };
+
+    ghost bound = { 2 ^ limit };
+
+    fn zero() -> AtomSet {
+        AtomSet::EMPTY
+    }
+
+    fn longer(self, digit: u8) -> Option<AtomSet> {
+        self.with_digit(digit)
+    }
+}
+
+#[tactic(auto, unfolding(crate::specs::Numbers::is_digit))]
+fn digit(b: u8) -> Option<u8>
+    ensures { MatchOption result (is_digit b ≡ false) (λ d. (is_digit b ≡ true) × (d ≡ b - 48)) }
 {
-    let mut value: u8 = 0;
-    let mut i = 0;
-    while i < word.len() {
-        let Byte::Is(longer) = byte_with(value, word[i]) else {
-            return Byte::None;
-        };
-        value = longer;
-        i += 1;
+    match b {
+        b'0'..=b'9' => Some(b - b'0'),
+        _ => None,
     }
-    Byte::Is(value)
 }
 
-fn set_with(value: AtomSet, b: u8) -> Set
-    ensures { set_of result ≡ with_digit (2 ^ limit) (num value) b }
+// The number that the digits of a word are, if they are one.
+pub fn number_in<N: Number>(word: &[u8]) -> Option<N>
+    ensures { option_map N.value result ≡ number_below N.bound word.now }
 {
-    if !is_digit(b) {
-        return Set::None;
+    let mut number = N::zero();
+    for b in word {
+        number = number.longer(digit(*b)?)?;
     }
-    let longer = value.with_digit(b - b'0');
-    if !longer.fits {
-        return Set::None;
-    }
-    let set = longer.set;
-    Set::Is(set)
+    Some(number)
 }
 
-pub fn set_in(word: &[u8]) -> Set
-    ensures { set_of result ≡ number_below (2 ^ limit) word.now }
-{
-    let mut set = AtomSet::EMPTY;
-    let mut i = 0;
-    while i < word.len() {
-        let Set::Is(longer) = set_with(set, word[i]) else {
-            return Set::None;
-        };
-        set = longer;
-        i += 1;
-    }
-    Set::Is(set)
-}
-
-fn is_hex_letter(b: u8) -> bool
-    ensures { result ≡ is_hex_letter b }
-{
-    if b < b'a' { false } else { b <= b'f' }
-}
-
+#[tactic(auto, unfolding(crate::specs::Numbers::is_digit, crate::specs::Numbers::is_hex_letter, crate::specs::Numbers::is_hex_digit))]
 fn is_hex_digit(b: u8) -> bool
     ensures { result ≡ is_hex_digit b }
 {
-    if is_digit(b) { true } else { is_hex_letter(b) }
+    matches!(b, b'0'..=b'9' | b'a'..=b'f')
 }
 
 // The digits of whole bytes.
 pub fn is_hex(word: &[u8]) -> bool
-    ensures { result ≡ (all is_hex_digit word.now && eqb (length word.now % 2) 0) }
+    ensures { result ≡ (list_all is_hex_digit word.now && eqb (length word.now % 2) 0) }
 {
-    let mut i = 0;
-    while i < word.len() {
-        if !is_hex_digit(word[i]) {
-            return false;
-        }
-        i += 1;
-    }
-    i % 2 == 0
+    word.iter().all(|b| is_hex_digit(*b)) && word.len() % 2 == 0
 }
 
+#[tactic(auto, unfolding(crate::specs::Numbers::is_digit, crate::specs::Numbers::is_hex_letter, crate::specs::Numbers::hex_value))]
 fn hex_value(b: u8) -> u8
     ensures { (result ≡ hex_value b) × (result < 16) }
 {
-    if is_digit(b) {
-        return b - b'0';
+    match b {
+        b'0'..=b'9' => b - b'0',
+        b'a'..=b'f' => 10 + (b - b'a'),
+        _ => 0,
     }
-    if is_hex_letter(b) {
-        return 10 + (b - b'a');
-    }
-    0
 }
 
-fn byte_of(high: u8, low: u8) -> u8
-    ensures { result ≡ 16 * hex_value high + hex_value low }
+// Appends the bytes of two digits each.
+pub fn unhex(word: &[u8], sheet: &mut Draft)
+    ensures { Appends (paired word.now) sheet.old sheet.new }
 {
-    16 * hex_value(high) + hex_value(low)
-}
-
-// Puts the bytes of two digits each at the start of a sheet, as many as there is room for, and returns their number.
-pub fn unhex(word: &[u8], sheet: &mut [u8]) -> usize
-    ensures { Appends (paired word.now) sheet.old 0 sheet.new result }
-{
-    let mut end = 0;
-    let mut i = 0;
-    while 1 < word.len() - i {
-        let byte = [byte_of(word[i], word[i + 1])];
-        end = text::word(sheet, end, &byte);
-        i += 2;
+    let mut rest = word;
+    while let [high, low, further @ ..] = rest {
+        sheet.word(&[16 * hex_value(*high) + hex_value(*low)]);
+        rest = further;
     }
-    end
 }

@@ -2,18 +2,18 @@
 ghost use Rattle.std.specs.Prelude.{◌++◌, ◌≡◌, ◌≤◌, length, take, drop};
 ghost use Rattle.std.proofs.Math.Option.{some};
 ghost use Rattle.ipl.specs.Book.{page};
-ghost use Rattle.prover.specs.Page.{goals_of, records_of};
+ghost use Rattle.prover.specs.Page.{goals_of};
 ghost use Rattle.text.specs.Text.{ascii, decimal, labelled};
 ghost use Rattle.text.specs.Output.{Appends};
 ghost use Rattle.script.specs.Command.{call_book, GoalList, page_in};
 ghost use Rattle.script.specs.Words.{words_of};
 ghost use Rattle.script.specs.Reading.{goal_room};
-ghost use Rattle.script.specs.Answer.{record_lines, records_lines, CommandDone, Writes};
+ghost use Rattle.script.specs.Answer.{record_lines, records_lines, CommandDone, Adds};
 
-use super::answers::Answer;
 use super::reading;
 use super::reading::Goals;
-use prover::{GoalAnswer, GoalRecord, Records, Session, Worlds};
+use prover::{GoalAnswer, GoalRecord, Session, Worlds};
+use text::Draft;
 
 fn unanswered(goal: u8) -> GoalRecord
     ensures { result.goal ≡ goal }
@@ -28,79 +28,63 @@ fn unanswered(goal: u8) -> GoalRecord
     }
 }
 
-// A record for each goal.
-fn records_of(goals: Goals) -> Records
-    requires { goals.count ≤ goal_room }
-    ensures { (result.count ≡ goals.count) × (goals_of (records_of result) ≡ take goals.count goals.rows) }
+// A record for each goal, and for each row past them one of atom 0.
+fn records_of(goals: &Goals) -> [GoalRecord; ipl::GOALS + 1]
+    requires { goals.now.count ≤ goal_room }
+    ensures { goals_of (take goals.now.count result) ≡ take goals.now.count goals.now.rows }
 {
-    let mut records = Records {
-        count: goals.count,
-        rows: [unanswered(0); ipl::GOALS + 1],
-    };
-    let mut i = 0;
-    while i < goals.count {
-        records.rows[i] = unanswered(goals.rows[i]);
-        i += 1;
+    let mut records = [unanswered(0); ipl::GOALS + 1];
+    for i in 0..goals.count {
+        records[i].goal = goals.rows[i];
     }
     records
 }
 
 // The line of the goal at a place, with a figure.
-fn figured(output: &mut [u8], at: usize, place: usize, label: &[u8], figure: usize) -> usize
-    ensures { Appends ((labelled "goal " place ++ (label.now ++ decimal figure)) ++ ascii "\n") output.old at output.new result }
+fn figured(draft: &mut Draft, place: usize, label: &[u8], figure: usize)
+    ensures { Appends ((labelled "goal " place ++ (label.now ++ decimal figure)) ++ ascii "\n") draft.old draft.new }
 {
-    let a = text::figure(output, at, b"goal ", place as u64);
-    let b = text::figure(output, a, label, figure as u64);
-    text::word(output, b, b"\n")
+    draft.figure(b"goal ", place as u64);
+    draft.figure(label, figure as u64);
+    draft.word(b"\n");
 }
 
-fn write_record(output: &mut [u8], at: usize, place: usize, r: GoalRecord) -> usize
-    ensures { Appends (record_lines place r) output.old at output.new result }
+fn write_record(draft: &mut Draft, place: usize, r: &GoalRecord)
+    ensures { Appends (record_lines place r.now) draft.old draft.new }
 {
-    let answer = r.answer;
-    match answer {
-        GoalAnswer::Open => at,
-        GoalAnswer::Valid(steps) => figured(output, at, place, b" valid ", steps),
+    match r.answer {
+        GoalAnswer::Open => {}
+        GoalAnswer::Valid(steps) => figured(draft, place, b" valid ", steps),
         GoalAnswer::Refuted(count) => {
-            let end = figured(output, at, place, b" refuted ", count);
-            report::worlds(output, end, r.worlds)
+            figured(draft, place, b" refuted ", count);
+            report::worlds(draft, &r.worlds);
         }
-        GoalAnswer::RefutedBy(other) => figured(output, at, place, b" refuted by ", other),
-        GoalAnswer::Refused(number) => figured(output, at, place, b" refused ", number as usize),
+        GoalAnswer::RefutedBy(other) => figured(draft, place, b" refuted by ", other),
+        GoalAnswer::Refused(refusal) => {
+            figured(draft, place, b" refused ", usize::from(refusal.number()))
+        }
     }
 }
 
-fn write_records(records: Records, output: &mut [u8]) -> usize
-    requires { records.count ≤ goal_room }
-    ensures { Appends (records_lines 0 (records_of records)) output.old 0 output.new result }
+fn write_records(records: &[GoalRecord], draft: &mut Draft)
+    ensures { Appends (records_lines 0 records.now) draft.old draft.new }
 {
-    let mut end = 0;
-    let mut i = 0;
-    while i < records.count {
-        end = write_record(output, end, i, records.rows[i]);
-        i += 1;
+    for (i, record) in records.iter().enumerate() {
+        write_record(draft, i, record);
     }
-    end
 }
 
-// The goals and their author start at a place of the line.
-pub fn page(s: Session, line: &[u8], start: usize, output: &mut [u8]) -> Answer
-    requires { (start ≤ length line.now) × ((p : GoalList) × (page_in (words_of (drop start line.now)) ≡ some p)) }
-    ensures { (p : GoalList) → page_in (words_of (drop start line.now)) ≡ some p
-        → Writes (CommandDone s (call_book (page p.author p.goals))) output.old output.new result }
+// The words are the goals and their author.
+pub fn page(s: &mut Session, words: &[u8], draft: &mut Draft)
+    requires { (p : GoalList) × (page_in (words_of words.now) ≡ Some p) }
+    ensures { (p : GoalList) → page_in (words_of words.now) ≡ Some p
+        → Adds (CommandDone s.old (call_book (page p.author p.goals))) draft.old draft.new s.new }
 {
-    let goals = reading::read_goals(line, start);
-    let r = prover::page_of(records_of(goals), s, goals.author);
-    let changed = r.changed;
-    let session = changed.session;
-    if changed.refusal != 0 {
-        return Answer {
-            session,
-            length: text::refusal(output, changed.refusal, 0, false),
-        };
-    }
-    Answer {
-        session,
-        length: write_records(r.records, output),
+    let goals = reading::read_goals(words).unwrap();
+    let mut records = records_of(&goals);
+    let records = &mut records[..goals.count];
+    match s.page(records, goals.author) {
+        Ok(()) => write_records(records, draft),
+        Err(refusal) => draft.refusal(refusal.number(), None),
     }
 }

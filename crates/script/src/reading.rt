@@ -1,11 +1,12 @@
 // From a line's bytes to a call.
-ghost use Rattle.std.specs.Prelude.{List, [], ◌∷◌, ◌++◌, ◌≡◌, ℕ, ◌≤◌, length, drop};
+ghost use Rattle.std.specs.Prelude.{List, [], ◌∷◌, ◌++◌, ◌≡◌, ℕ, length, drop, Some, None, MatchOption};
 ghost use Rattle.script.specs.Words.{words_of};
-ghost use Rattle.script.specs.Command.{byte_in, set_in, only_byte, author_in, authored, page_in, verb_of};
-ghost use Rattle.script.specs.Places.{byte_of, byte_taken, set_taken, no_word, Takes};
-ghost use Rattle.script.specs.Reading.{GoalsAre, GoalsRead, Completes, Behind, Arguments, ReadAs};
+ghost use Rattle.script.specs.Numbers.{number_below};
+ghost use Rattle.script.specs.Command.{only_byte, author_in, page_in, verb_of};
+ghost use Rattle.script.specs.Parts.{first_of, Argument, no_word};
+ghost use Rattle.script.specs.Reading.{GoalsAre, GoalsRead, Completes, Arguments, ReadAs};
 
-use super::numbers::Byte;
+use super::numbers::Number;
 use super::{bytes, numbers, words};
 use atoms::AtomSet;
 
@@ -30,47 +31,32 @@ pub enum Verb {
     Other,
 }
 
-// The goals of a page and its author: whether the words are that, and as many goals as there are rows, one more than a page may have.
+// The goals of a page and its author: as many goals as there are rows, one more than a page may have.
 #[derive(Clone, Copy)]
 pub struct Goals {
-    pub complete: bool,
     pub author: u8,
     pub count: usize,
     pub rows: [u8; ipl::GOALS + 1],
 }
 
-// What a line asks for: of a question the author stands first; texts and the goals of a page start at a place, a sheet's digits stand
-// between two places.
+// What a line asks for: of a question the author stands first; of a page and of a sheet, the words that are its goals and its digits.
 #[derive(Clone, Copy)]
-pub enum Call {
+pub enum Call<'a> {
     Silent,
     NoCall,
     Open(u8),
-    Text(usize),
+    Text(&'a [u8]),
     Flat(AtomSet, AtomSet),
     Implication(u8, u8, u8),
     Ask(u8, u8),
-    Page(usize),
+    Page(&'a [u8]),
     Mark(u8),
     Return(u8),
     Length,
     Sheet,
-    Check(usize, usize),
+    Check(&'a [u8]),
     Mean(u8),
-    Screen(usize),
-}
-
-// An argument's value and the place behind it, or no such argument.
-#[derive(Clone, Copy)]
-enum ByteArgument {
-    Is(u8, usize),
-    None,
-}
-
-#[derive(Clone, Copy)]
-enum SetArgument {
-    Is(AtomSet, usize),
-    None,
+    Screen(&'a [u8]),
 }
 
 fn verb_of(word: &[u8]) -> Verb
@@ -118,297 +104,161 @@ fn verb_of(word: &[u8]) -> Verb
     Verb::Other
 }
 
-fn byte_argument(line: &[u8], from: usize) -> ByteArgument
-    requires { from ≤ length line.now }
-    ensures { Takes byte_in line.now from (byte_taken result) }
+// An argument that is a number, and what follows it.
+fn argument<N: Number>(line: &[u8]) -> Option<(N, &[u8])>
+    ensures { MatchOption result (first_of (number_below N.bound) (words_of line.now) ≡ None)
+        (λ a. Argument (number_below N.bound) line.now (N.value a.0) a.1.now) }
 {
-    let word = words::next(line, from);
-    let start = word.start;
-    let end = word.end;
-    if start == end {
-        return ByteArgument::None;
-    }
-    match numbers::byte_in(&line[start..end]) {
-        Byte::Is(x) => ByteArgument::Is(x, end),
-        Byte::None => ByteArgument::None,
-    }
-}
-
-fn set_argument(line: &[u8], from: usize) -> SetArgument
-    requires { from ≤ length line.now }
-    ensures { Takes set_in line.now from (set_taken result) }
-{
-    let word = words::next(line, from);
-    let start = word.start;
-    let end = word.end;
-    if start == end {
-        return SetArgument::None;
-    }
-    match numbers::set_in(&line[start..end]) {
-        numbers::Set::Is(x) => SetArgument::Is(x, end),
-        numbers::Set::None => SetArgument::None,
-    }
+    let (word, rest) = words::split_first(line)?;
+    Some((numbers::number_in(word)?, rest))
 }
 
 // Whether no word follows.
-fn is_last(line: &[u8], from: usize) -> bool
-    requires { from ≤ length line.now }
-    ensures { result ≡ no_word (words_of (drop from line.now)) }
+fn is_last(line: &[u8]) -> bool
+    ensures { result ≡ no_word (words_of line.now) }
 {
-    let word = words::next(line, from);
-    word.start == word.end
+    words::split_first(line).is_none()
 }
 
 // The call where no word follows.
-fn if_last(line: &[u8], from: usize, call: Call) -> Call
-    requires { from ≤ length line.now }
-    ensures { Completes line.now from call result }
+fn if_last<'a>(line: &[u8], call: Call<'a>) -> Option<Call<'a>>
+    ensures { Completes line.now call.entry result }
 {
-    if is_last(line, from) {
-        call
-    } else {
-        Call::NoCall
-    }
+    is_last(line).then_some(call)
 }
 
 // The byte that is the only argument, if it is.
-fn one_byte(line: &[u8], from: usize) -> Byte
-    requires { from ≤ length line.now }
-    ensures { byte_of result ≡ only_byte (words_of (drop from line.now)) }
+fn only_byte(line: &[u8]) -> Option<u8>
+    ensures { result ≡ only_byte (words_of line.now) }
 {
-    let ByteArgument::Is(x, end) = byte_argument(line, from) else {
-        return Byte::None;
-    };
-    if is_last(line, end) {
-        Byte::Is(x)
-    } else {
-        Byte::None
+    let (x, rest) = argument(line)?;
+    is_last(rest).then_some(x)
+}
+
+// What follows one space, if there is anything.
+fn behind_space(line: &[u8]) -> &[u8]
+    ensures { result.now ≡ drop 1 line.now }
+{
+    match line {
+        [_, text @ ..] => text,
+        [] => line,
     }
 }
 
-fn open(line: &[u8], from: usize) -> Call
-    requires { from ≤ length line.now }
-    ensures { Arguments Verb.Open line.now from result }
+fn flat(line: &[u8]) -> Option<Call<'_>>
+    ensures { Arguments Verb.Flat line.now result }
 {
-    match one_byte(line, from) {
-        Byte::Is(n) => Call::Open(n),
-        Byte::None => Call::NoCall,
-    }
+    let (left, rest) = argument(line)?;
+    let (right, rest) = argument(rest)?;
+    if_last(rest, Call::Flat(left, right))
 }
 
-// The place behind the word and one space, or the line's end.
-fn behind(line: &[u8], from: usize) -> usize
-    requires { from ≤ length line.now }
-    ensures { Behind line.now from result }
+fn implication(line: &[u8]) -> Option<Call<'_>>
+    ensures { Arguments Verb.Implication line.now result }
 {
-    if from < line.len() {
-        return from + 1;
-    }
-    from
-}
-
-fn flat(line: &[u8], from: usize) -> Call
-    requires { from ≤ length line.now }
-    ensures { Arguments Verb.Flat line.now from result }
-{
-    let SetArgument::Is(left, after_left) = set_argument(line, from) else {
-        return Call::NoCall;
-    };
-    let SetArgument::Is(right, end) = set_argument(line, after_left) else {
-        return Call::NoCall;
-    };
-    if_last(line, end, Call::Flat(left, right))
-}
-
-fn implication(line: &[u8], from: usize) -> Call
-    requires { from ≤ length line.now }
-    ensures { Arguments Verb.Implication line.now from result }
-{
-    let ByteArgument::Is(a, after_a) = byte_argument(line, from) else {
-        return Call::NoCall;
-    };
-    let ByteArgument::Is(b, after_b) = byte_argument(line, after_a) else {
-        return Call::NoCall;
-    };
-    let ByteArgument::Is(c, end) = byte_argument(line, after_b) else {
-        return Call::NoCall;
-    };
-    if_last(line, end, Call::Implication(a, b, c))
+    let (a, rest) = argument(line)?;
+    let (b, rest) = argument(rest)?;
+    let (c, rest) = argument(rest)?;
+    if_last(rest, Call::Implication(a, b, c))
 }
 
 // The author whom the rest of the line names; the program, where there is no word.
-fn author(line: &[u8], from: usize) -> Byte
-    requires { from ≤ length line.now }
-    ensures { byte_of result ≡ author_in (words_of (drop from line.now)) }
+fn author(line: &[u8]) -> Option<u8>
+    ensures { result ≡ author_in (words_of line.now) }
 {
-    let word = words::next(line, from);
-    let start = word.start;
-    let end = word.end;
-    if start == end {
-        return Byte::Is(ipl::PROGRAM);
-    }
-    if bytes::same(&line[start..end], b"by") {
-        return one_byte(line, end);
-    }
-    Byte::None
-}
-
-fn ask(line: &[u8], from: usize) -> Call
-    requires { from ≤ length line.now }
-    ensures { Arguments Verb.Ask line.now from result }
-{
-    let ByteArgument::Is(goal, end) = byte_argument(line, from) else {
-        return Call::NoCall;
+    let Some((word, rest)) = words::split_first(line) else {
+        return Some(ipl::PROGRAM);
     };
-    match author(line, end) {
-        Byte::Is(author) => Call::Ask(author, goal),
-        Byte::None => Call::NoCall,
+    if bytes::same(word, b"by") {
+        only_byte(rest)
+    } else {
+        None
     }
 }
 
-// One goal more, where there is a row for it.
-fn with_goal(t: Goals, goal: u8) -> Goals
-    ensures { (gs : List ℕ) → GoalsAre gs t → GoalsAre (gs ++ (goal ∷ [])) result }
+fn ask(line: &[u8]) -> Option<Call<'_>>
+    ensures { Arguments Verb.Ask line.now result }
 {
-    let mut next = t;
-    let at = t.count;
-    if at < ipl::GOALS + 1 {
-        next.rows[at] = goal;
-        next.count = at + 1;
-    }
-    next
+    let (goal, rest) = argument(line)?;
+    Some(Call::Ask(author(rest)?, goal))
 }
 
-// The goals with their author, if there is one.
-fn with_author(t: Goals, author: Byte) -> Goals
-    ensures { (gs : List ℕ) → GoalsAre gs t → GoalsRead (authored gs (byte_of author)) result }
-{
-    let mut next = t;
-    match author {
-        Byte::Is(a) => {
-            next.author = a;
-            next
-        }
-        Byte::None => {
-            next.complete = false;
-            next
+impl Goals {
+    // One goal more, where there is a row for it.
+    fn push(&mut self, goal: u8)
+        ensures { (gs : List ℕ) → GoalsAre gs self.old → GoalsAre (gs ++ (goal ∷ [])) self.new }
+    {
+        if self.count < ipl::GOALS + 1 {
+            self.rows[self.count] = goal;
+            self.count += 1;
         }
     }
 }
 
-// The goals that start at a place of the line, and their author.
-pub fn read_goals(line: &[u8], from: usize) -> Goals
-    requires { from ≤ length line.now }
-    ensures { GoalsRead (page_in (words_of (drop from line.now))) result }
+// The goals that the words of a line are, and their author.
+pub fn read_goals(line: &[u8]) -> Option<Goals>
+    ensures { GoalsRead (page_in (words_of line.now)) result }
 {
     let mut goals = Goals {
-        complete: true,
         author: ipl::PROGRAM,
         count: 0,
         rows: [0; ipl::GOALS + 1],
     };
-    let mut at = from;
-    loop {
-        let ByteArgument::Is(goal, end) = byte_argument(line, at) else {
-            return with_author(goals, author(line, at));
-        };
-        goals = with_goal(goals, goal);
-        at = end;
+    let mut rest = line;
+    while let Some((goal, further)) = argument(rest) {
+        goals.push(goal);
+        rest = further;
     }
-}
-
-fn page(line: &[u8], from: usize) -> Call
-    requires { from ≤ length line.now }
-    ensures { Arguments Verb.Page line.now from result }
-{
-    if read_goals(line, from).complete {
-        Call::Page(from)
-    } else {
-        Call::NoCall
-    }
-}
-
-fn mark(line: &[u8], from: usize) -> Call
-    requires { from ≤ length line.now }
-    ensures { Arguments Verb.Mark line.now from result }
-{
-    match one_byte(line, from) {
-        Byte::Is(number) => Call::Mark(number),
-        Byte::None => Call::NoCall,
-    }
-}
-
-fn return_to(line: &[u8], from: usize) -> Call
-    requires { from ≤ length line.now }
-    ensures { Arguments Verb.Return line.now from result }
-{
-    match one_byte(line, from) {
-        Byte::Is(number) => Call::Return(number),
-        Byte::None => Call::NoCall,
-    }
+    let author = author(rest)?;
+    Some(Goals { author, ..goals })
 }
 
 // No word is the empty sheet.
-fn check_sheet(line: &[u8], from: usize) -> Call
-    requires { from ≤ length line.now }
-    ensures { Arguments Verb.Check line.now from result }
+fn check_sheet(line: &[u8]) -> Option<Call<'_>>
+    ensures { Arguments Verb.Check line.now result }
 {
-    let word = words::next(line, from);
-    let start = word.start;
-    let end = word.end;
-    if numbers::is_hex(&line[start..end]) {
-        return if_last(line, end, Call::Check(start, end));
+    let Some((digits, rest)) = words::split_first(line) else {
+        return Some(Call::Check(&[]));
+    };
+    if !numbers::is_hex(digits) {
+        return None;
     }
-    Call::NoCall
+    if_last(rest, Call::Check(digits))
 }
 
-fn mean(line: &[u8], from: usize) -> Call
-    requires { from ≤ length line.now }
-    ensures { Arguments Verb.Mean line.now from result }
-{
-    match one_byte(line, from) {
-        Byte::Is(author) => Call::Mean(author),
-        Byte::None => Call::NoCall,
-    }
-}
-
-// The call of a verb whose word ends at a place.
-fn call_of(verb: Verb, line: &[u8], from: usize) -> Call
-    requires { from ≤ length line.now }
-    ensures { Arguments verb line.now from result }
+// The call of a verb, by what follows its word.
+fn call_of(verb: Verb, line: &[u8]) -> Option<Call<'_>>
+    ensures { Arguments verb line.now result }
 {
     match verb {
-        Verb::Open => open(line, from),
-        Verb::Text => Call::Text(behind(line, from)),
-        Verb::Flat => flat(line, from),
-        Verb::Implication => implication(line, from),
-        Verb::Ask => ask(line, from),
-        Verb::Page => page(line, from),
-        Verb::Mark => mark(line, from),
-        Verb::Return => return_to(line, from),
-        Verb::Length => if_last(line, from, Call::Length),
-        Verb::Sheet => if_last(line, from, Call::Sheet),
-        Verb::Check => check_sheet(line, from),
-        Verb::Mean => mean(line, from),
-        Verb::Screen => Call::Screen(behind(line, from)),
-        Verb::Other => Call::NoCall,
+        Verb::Open => Some(Call::Open(only_byte(line)?)),
+        Verb::Text => Some(Call::Text(behind_space(line))),
+        Verb::Flat => flat(line),
+        Verb::Implication => implication(line),
+        Verb::Ask => ask(line),
+        Verb::Page => read_goals(line).is_some().then_some(Call::Page(line)),
+        Verb::Mark => Some(Call::Mark(only_byte(line)?)),
+        Verb::Return => Some(Call::Return(only_byte(line)?)),
+        Verb::Length => if_last(line, Call::Length),
+        Verb::Sheet => if_last(line, Call::Sheet),
+        Verb::Check => check_sheet(line),
+        Verb::Mean => Some(Call::Mean(only_byte(line)?)),
+        Verb::Screen => Some(Call::Screen(behind_space(line))),
+        Verb::Other => None,
     }
 }
 
-pub fn read(line: &[u8]) -> Call
+pub fn read(line: &[u8]) -> Call<'_>
     ensures { ReadAs line.now result }
 {
-    let word = words::next(line, 0);
-    let start = word.start;
-    let end = word.end;
-    if start == end {
+    let Some((verb, rest)) = words::split_first(line) else {
         return Call::Silent;
-    }
+    };
     if line[0] == b'#' {
         return Call::Silent;
     }
     if MOST_BYTES < line.len() {
         return Call::NoCall;
     }
-    call_of(verb_of(&line[start..end]), line, end)
+    call_of(verb_of(verb), rest).unwrap_or(Call::NoCall)
 }

@@ -1,39 +1,28 @@
 // The words of a line: what stands between spaces.
-ghost use Rattle.std.specs.Prelude.{◌≤◌, length};
-ghost use Rattle.script.specs.Places.{Indent, NextWord};
+ghost use Rattle.std.specs.Prelude.{[], ◌≡◌, MatchOption};
+ghost use Rattle.script.specs.Words.{unindented};
+ghost use Rattle.script.specs.Parts.{FirstWord};
 
 use super::bytes;
 
 const SPACE: u8 = b' ';
 
-// A word is the bytes from `start` up to `end`; there is none where the two are the same.
-#[derive(Clone, Copy)]
-pub struct Word {
-    pub start: usize,
-    pub end: usize,
+// The line from its first word on.
+fn unindented(line: &[u8]) -> &[u8]
+    ensures { result.now ≡ unindented line.now }
+{
+    let start = line.iter().position(|b| *b != SPACE).unwrap_or(line.len());
+    &line[start..]
 }
 
-// The place of the first byte that is no space, from a place in the line on; else the line's end.
-fn past_spaces(line: &[u8], from: usize) -> usize
-    requires { from ≤ length line.now }
-    ensures { Indent line.now from result }
+// The first word and what follows it, where there is a word.
+pub fn split_first(line: &[u8]) -> Option<(&[u8], &[u8])>
+    ensures { MatchOption result (unindented line.now ≡ []) (λ s. FirstWord line.now s.0.now s.1.now) }
 {
-    let mut i = from;
-    while i < line.len() {
-        if line[i] != SPACE {
-            return i;
-        }
-        i += 1;
+    let rest = unindented(line);
+    let end = bytes::find(rest, SPACE);
+    if end == 0 {
+        return None;
     }
-    i
-}
-
-// The first word from a place in the line on.
-pub fn next(line: &[u8], from: usize) -> Word
-    requires { from ≤ length line.now }
-    ensures { NextWord line.now from result }
-{
-    let start = past_spaces(line, from);
-    let end = bytes::find(line, start, SPACE);
-    Word { start, end }
+    Some(rest.split_at(end))
 }

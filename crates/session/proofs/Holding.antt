@@ -11,7 +11,7 @@ use mir.Val.{Fits}
 use Rattle.prover.specs.declared.Session.{Session}
 use Rattle.script.specs.Pieces.{Answers}
 use Rattle.script.specs.declared.Pending.{Pending}
-use Rattle.script.specs.declared.answers.Answer.{Answer}
+use Rattle.script.specs.Answer.{Answer}
 use Rattle.script.proofs.Performing.{answer_inside}
 
 -- The answer to a line is written behind the first `held` bytes of the output.

@@ -7,7 +7,6 @@ ghost use Rattle.script.specs.Run.{output_room, LinesAnswered, Through};
 use prover::Session;
 use script::Pending;
 use std::io::Read;
-use streams::Input;
 
 // A script is read in pieces of at most so many bytes.
 const PIECE: usize = 65536;
@@ -16,155 +15,125 @@ const PIECE: usize = 65536;
 const ANSWERS: usize = script::OUTPUT + 32768;
 
 // A script that is being read: its session, the line that has begun, and that line's number.
-#[derive(Clone, Copy)]
+#[derive(Drop)]
 struct Script {
     session: Session,
     pending: Pending,
     number: u64,
 }
 
-// After lines of a piece: the place up to which it was read, and how many bytes of the output the answers are.
-#[derive(Clone, Copy)]
-struct Answers {
-    script: Script,
-    at: usize,
-    length: usize,
-}
-
-// After a piece, and whether there is more to do: no input or output failed, and the input has not ended.
-#[derive(Clone, Copy)]
-struct Reached {
-    script: Script,
-    more: bool,
-}
-
 fn write(rt: &(impl Print + Eprint), output: &[u8]) -> bool {
-    output.len() == 0 || streams::write(rt, output)
+    output.is_empty() || streams::write(rt, output).is_ok()
 }
 
-// Whether the answers can wait for that to the line which begins at a place of the piece: there is room for it, and it is no question
-// and no page, which can take long. Who sends a full piece ahead does not wait for a single answer.
-fn can_wait(piece: &[u8], at: usize, room: usize) -> bool
+// Whether the answers can wait for that to the next line, by what is left of the piece: there is room for it, and it is no question and
+// no page, which can take long. Who sends a full piece ahead does not wait for a single answer.
+fn can_wait(rest: &[u8], full: bool, room: usize) -> bool
     ensures { result ≡ true → output_room ≤ room }
 {
-    let n = piece.len();
     if room < script::OUTPUT {
         return false;
     }
-    if n <= at || n == PIECE {
-        return true;
-    }
-    piece[at] != b'a' && piece[at] != b'p' && piece[at] != b' '
+    full || !matches!(rest, [b'a' | b'p' | b' ', ..])
 }
 
-// Answers lines of a piece, from a place on, one behind the other in the output, while the answers can wait.
-fn answer_lines(
-    start: Script,
-    piece: &[u8],
-    from: usize,
+// Answers lines of a piece, one behind the other in the output, while the answers can wait: what is left of the piece, and how many bytes
+// of the output the answers are.
+fn answer_lines<'a>(
+    script: &mut Script,
+    piece: &'a [u8],
+    full: bool,
     line: &mut [u8],
     output: &mut [u8],
-) -> Answers
-    requires { (from ≤ length piece.now) × (output_room ≤ length output.old) }
-    ensures { LinesAnswered piece.now from start.session start.number line.old start.pending
-        result.at result.script.session result.script.number line.new result.script.pending output.new result.length }
+) -> (&'a [u8], usize)
+    requires { output_room ≤ length output.old }
+    ensures { LinesAnswered piece.now script.old.session script.old.number line.old script.old.pending
+        result.0.now script.new.session script.new.number line.new script.new.pending output.new result.1 }
 {
-    let mut session = start.session;
-    let mut pending = start.pending;
-    let mut number = start.number;
+    let mut rest = piece;
     let mut held = 0;
-    let mut at = from;
-    let mut waits = true;
-    while waits && at < piece.len() {
-        let gathered = script::gather(piece, at, line, pending);
-        at = gathered.at;
-        pending = gathered.pending;
-        if gathered.ended {
-            let answer = script::answer_line(session, number, line, pending, &mut output[held..]);
-            session = answer.session;
-            number = script::number_after(number);
-            pending = Pending::NONE;
-            held += answer.length;
-            waits = can_wait(piece, at, output.len() - held);
+    while !rest.is_empty() {
+        let Some(next) = script::gather(rest, line, &mut script.pending) else {
+            return (&[], held);
+        };
+        held += script::answer_line(
+            &mut script.session,
+            script.number,
+            line,
+            script.pending,
+            &mut output[held..],
+        );
+        script.number = script::number_after(script.number);
+        script.pending = Pending::NONE;
+        rest = next;
+        if !can_wait(rest, full, output.len() - held) {
+            return (rest, held);
         }
     }
-    let script = Script {
-        session,
-        pending,
-        number,
-    };
-    Answers {
-        script,
-        at,
-        length: held,
-    }
+    (rest, held)
 }
 
-// Answers the lines that end in a piece.
+// Answers the lines that end in a piece, and returns whether that was written.
 fn answer(
     rt: &(impl Print + Eprint),
-    start: Script,
+    script: &mut Script,
     piece: &[u8],
     line: &mut [u8],
     output: &mut [u8],
-) -> Reached
+) -> bool
     requires { output_room ≤ length output.old }
-    ensures { result.more ≡ true → Through start.session start.number line.old start.pending piece.now
-        result.script.session result.script.number line.new result.script.pending }
+    ensures { result ≡ true → Through script.old.session script.old.number line.old script.old.pending piece.now
+        script.new.session script.new.number line.new script.new.pending }
 {
-    let mut script = start;
-    let mut more = true;
-    let mut at = 0;
-    while more && at < piece.len() {
-        let answers = answer_lines(script, piece, at, line, output);
-        script = answers.script;
-        at = answers.at;
-        let n = answers.length;
-        more = write(rt, &output[..n]);
+    let full = piece.len() == PIECE;
+    let mut rest = piece;
+    while !rest.is_empty() {
+        let (next, n) = answer_lines(script, rest, full, line, output);
+        if !write(rt, &output[..n]) {
+            return false;
+        }
+        rest = next;
     }
-    Reached { script, more }
+    true
 }
 
 // Answers the last line.
-fn end(rt: &(impl Print + Eprint), script: Script, line: &[u8], output: &mut [u8]) {
-    let last = script::answer_line(script.session, script.number, line, script.pending, output);
-    let n = last.length;
+fn end(rt: &(impl Print + Eprint), script: &mut Script, line: &[u8], output: &mut [u8]) {
+    let n = script::answer_line(
+        &mut script.session,
+        script.number,
+        line,
+        script.pending,
+        output,
+    );
     write(rt, &output[..n]);
 }
 
-// Reads a piece and answers the lines that end in it; at the end of the input the last line.
+// Reads a piece and answers the lines that end in it; at the end of the input the last line. Returns whether there is more to do: no
+// input or output failed, and the input has not ended.
 fn read(
     rt: &(impl Print + Eprint),
     from: &mut impl Read,
-    script: Script,
+    script: &mut Script,
     piece: &mut [u8],
     line: &mut [u8],
     output: &mut [u8],
-) -> Reached
+) -> bool
     requires { output_room ≤ length output.old }
 {
-    let input = streams::read_some(rt, from, piece);
-    let Input::Bytes(n) = input else {
-        return Reached {
-            script,
-            more: false,
-        };
+    let Ok(n) = streams::read_some(rt, from, piece) else {
+        return false;
     };
     if n == 0 {
         end(rt, script, line, output);
-        return Reached {
-            script,
-            more: false,
-        };
+        return false;
     }
     answer(rt, script, &piece[..n], line, output)
 }
 
 fn start() -> Script {
-    let opened = prover::open(1);
-    let session = opened.session;
     Script {
-        session,
+        session: Session::new(),
         pending: Pending::NONE,
         number: 1,
     }
@@ -181,14 +150,10 @@ fn run(
     requires { output_room ≤ length output.old }
 {
     let mut script = start();
-    let mut pieces: u64 = 0;
-    while pieces < 0xffff_ffff_ffff_ffff {
-        let reached = read(rt, from, script, piece, line, output);
-        if !reached.more {
+    for _ in 0..u64::MAX {
+        if !read(rt, from, &mut script, piece, line, output) {
             return;
         }
-        script = reached.script;
-        pieces += 1;
     }
 }
 
@@ -200,7 +165,7 @@ fn run_within(rt: &(impl Print + Eprint), from: &mut impl Read, output: &mut [u8
 }
 
 fn main(rt: HostRuntime) {
-    if !streams::are_open(&rt, &mut rt.stdin(), &mut rt.stderr()) {
+    if streams::check_open(&rt, &mut rt.stdin(), &mut rt.stderr()).is_err() {
         return;
     }
     if streams::has_argument(&rt, 1) {

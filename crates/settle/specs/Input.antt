@@ -1,14 +1,10 @@
 -- The formula on standard input.
-use Rattle.std.specs.Prelude.{cond, List, ◌≡◌, ℕ, ◌+◌, ◌-◌, ◌≤◌, eqb, length, get_or, take}
+use Rattle.std.specs.Prelude.{cond, List, ℕ, ◌+◌, ◌-◌, eqb, length, get_or, take}
 use Rattle.syntax.specs.Refusal.{most_bytes}
 
 -- "The program .. drops one final newline."
 unfoldable pub formula_length : List ℕ → ℕ
 formula_length s = cond (eqb (get_or s (length s - 1) 0) 10) (length s - 1) (length s)
-
-pub record FormulaLength (s : List ℕ) (r : ℕ) : Type 0 where
-  pub is : r ≡ formula_length s
-  pub within : r ≤ length s
 
 -- The input without it.
 abbrev pub formula : List ℕ → List ℕ

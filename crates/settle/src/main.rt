@@ -2,16 +2,15 @@
 // the verdict's answer sheet there.
 #![tactic(auto)]
 
-ghost use Rattle.std.specs.Prelude.{IfSome};
+ghost use Rattle.std.specs.Prelude.{◌≡◌};
 ghost use Rattle.text.specs.Output.{Gives};
 ghost use Rattle.report.specs.Printed.{printed, sheet};
-ghost use Rattle.streams.specs.Input.{Counts};
-ghost use Rattle.settle.specs.Input.{FormulaLength, formula};
+ghost use Rattle.settle.specs.Input.{formula};
 
 use std::env::{Env, FillError};
 use std::fs::Files;
 use std::random::RandomSource;
-use streams::Input;
+use streams::Told;
 use zestanchor::Lengths;
 
 mod file;
@@ -21,14 +20,13 @@ const ENOUGH: usize = syntax::MOST_BYTES + 2;
 
 // Without one final newline.
 #[tactic(auto, unfolding(crate::specs::Input::formula_length))]
-fn formula_length(input: &[u8]) -> usize
-    ensures { FormulaLength input.now result }
+fn formula(input: &[u8]) -> &[u8]
+    ensures { result.now ≡ formula input.now }
 {
-    let n = input.len();
-    if n == 0 {
-        return 0;
+    match input {
+        [formula @ .., b'\n'] => formula,
+        _ => input,
     }
-    if input[n - 1] == b'\n' { n - 1 } else { n }
 }
 
 // From the input to what is printed and to the sheet.
@@ -36,62 +34,58 @@ fn settle(input: &[u8], report: &mut [u8], certificate: &mut [u8]) -> Lengths
     ensures { Gives (printed (formula input.now)) report.old report.new result.report
         × Gives (sheet (formula input.now)) certificate.old certificate.new result.sheet }
 {
-    let n = formula_length(input);
-    zestanchor::settle_with_sheet(&input[..n], report, certificate)
+    zestanchor::settle_with_sheet(formula(input), report, certificate)
 }
 
 // Without a verdict there is no sheet, and the report says so; without a path none is saved.
-fn print(rt: &(impl Print + Eprint + Files + RandomSource), input: &[u8], path: &[u8]) {
+fn print(
+    rt: &(impl Print + Eprint + Files + RandomSource),
+    input: &[u8],
+    path: &[u8],
+) -> Result<(), Told> {
     let mut report = [0u8; text::DRAFT];
     let mut certificate = [0u8; text::DRAFT];
     let lengths = settle(input, &mut report, &mut certificate);
-    let size = lengths.sheet;
-    if 0 < size && 0 < path.len() {
-        if !file::save(rt, path, &certificate[..size]) {
-            return;
-        }
+    if 0 < lengths.sheet && !path.is_empty() {
+        file::save(rt, path, &certificate[..lengths.sheet])?;
     }
-    let n = lengths.report;
-    streams::write(rt, &report[..n]);
+    streams::write(rt, &report[..lengths.report])
 }
 
 fn is_name(path: &[u8]) -> bool {
-    if path.len() == 0 {
-        return false;
-    }
-    path[0] != b'-'
+    path.first().is_some_and(|first| *first != b'-')
 }
 
-// The length of the one argument, 0 where there is none; nothing where the arguments are wrong.
-fn argument(rt: &impl Env, path: &mut [u8]) -> Option<usize>
-    ensures { IfSome result (λ n. Counts n path.new) }
-{
+// The one argument, empty where there is none; nothing where the arguments are wrong.
+fn argument<'a>(rt: &impl Env, path: &'a mut [u8]) -> Option<&'a [u8]> {
     match rt.arg(1, path) {
-        Err(FillError::NotPresent) => Some(0),
+        Err(FillError::NotPresent) => Some(&[]),
         Err(FillError::TooLong) => None,
         Ok(n) => {
-            if is_name(&path[..n]) && !streams::has_argument(rt, 2) {
-                return Some(n);
+            let name = &path[..n];
+            if is_name(name) && !streams::has_argument(rt, 2) {
+                Some(name)
+            } else {
+                None
             }
-            None
         }
     }
 }
 
-fn main(rt: HostRuntime) {
-    if !streams::are_open(&rt, &mut rt.stdin(), &mut rt.stderr()) {
-        return;
-    }
+fn run(rt: &HostRuntime) -> Result<(), Told> {
+    streams::check_open(rt, &mut rt.stdin(), &mut rt.stderr())?;
     let mut path = [0u8; file::PATH_MAX];
-    let Some(n) = argument(&rt, &mut path) else {
+    let Some(path) = argument(rt, &mut path) else {
         let _ = eprintln!(rt;
             "usage: settle [FILE]\nreads a formula from standard input; FILE gets the answer sheet"
         );
-        return;
+        return Ok(());
     };
     let mut input = [0u8; ENOUGH];
-    match streams::read(&rt, &mut rt.stdin(), &mut input) {
-        Input::Failed => {}
-        Input::Bytes(m) => print(&rt, &input[..m], &path[..n]),
-    }
+    let n = streams::read(rt, &mut rt.stdin(), &mut input)?;
+    print(rt, &input[..n], path)
+}
+
+fn main(rt: HostRuntime) {
+    let _ = run(&rt);
 }

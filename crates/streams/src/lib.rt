@@ -9,16 +9,14 @@ use std::fs::{Files, OpenOptions};
 use std::io::{Error, ErrorKind, Read, Write};
 use std::{io, mem};
 
-// How many bytes came; or a read failed, and it was told.
-#[derive(Clone, Copy)]
-pub enum Input {
-    Bytes(usize),
-    Failed,
-}
+// A failure, told on standard error.
+#[derive(Clone, Copy, Debug, PartialEq, Eq)]
+pub struct Told;
 
-// What failed, on a line of standard error; where that fails too, nobody is left to tell.
-pub fn tell(rt: &impl Eprint, what: &str, error: Error) {
+// Tells what failed on a line of standard error; where that fails too, nobody is left to tell.
+pub fn tell(rt: &impl Eprint, what: &str, error: Error) -> Told {
     let _ = eprintln!(rt; "{what}: {error}");
+    Told
 }
 
 // One read, tried again where a signal interrupts it.
@@ -35,109 +33,73 @@ fn read_retrying(from: &mut impl Read, buffer: &mut [u8]) -> io::Result<usize>
 }
 
 // One read of standard input; 0 bytes at its end.
-pub fn read_some(rt: &impl Eprint, from: &mut impl Read, buffer: &mut [u8]) -> Input
+pub fn read_some(rt: &impl Eprint, from: &mut impl Read, buffer: &mut [u8]) -> Result<usize, Told>
     ensures { Within result buffer.new }
 {
-    match read_retrying(from, buffer) {
-        Ok(n) => Input::Bytes(n),
-        Err(error) => {
-            tell(rt, "standard input", error);
-            Input::Failed
-        }
-    }
+    read_retrying(from, buffer).map_err(|error| tell(rt, "standard input", error))
 }
 
 // Reads standard input until it ends or the buffer is full.
-pub fn read(rt: &impl Eprint, from: &mut impl Read, buffer: &mut [u8]) -> Input
+pub fn read(rt: &impl Eprint, from: &mut impl Read, buffer: &mut [u8]) -> Result<usize, Told>
     ensures { Within result buffer.new }
 {
     let mut done = 0;
     while done < buffer.len() {
-        match read_some(rt, from, &mut buffer[done..]) {
-            Input::Failed => return Input::Failed,
-            Input::Bytes(n) => {
-                if n == 0 {
-                    return Input::Bytes(done);
-                }
-                done += n;
-            }
+        match read_some(rt, from, &mut buffer[done..])? {
+            0 => break,
+            n => done += n,
         }
     }
-    Input::Bytes(done)
+    Ok(done)
 }
 
 // Reads on and counts what comes, until the input ends or `most` bytes came.
-pub fn count(rt: &impl Eprint, from: &mut impl Read, most: usize) -> Input
+pub fn count(rt: &impl Eprint, from: &mut impl Read, most: usize) -> Result<usize, Told>
     ensures { AtMost result most }
 {
     let mut space = [0u8; 4096];
     let mut counted = 0;
     while counted < most {
-        match read_some(rt, from, &mut space) {
-            Input::Failed => return Input::Failed,
-            Input::Bytes(n) => {
-                if n == 0 {
-                    return Input::Bytes(counted);
-                }
-                if most - counted < n {
-                    return Input::Bytes(most);
-                }
-                counted += n;
-            }
+        match read_some(rt, from, &mut space)? {
+            0 => break,
+            n => counted += n.min(most - counted),
         }
     }
-    Input::Bytes(counted)
+    Ok(counted)
 }
 
-// Writes to standard output; false where that failed.
-pub fn write(rt: &(impl Print + Eprint), bytes: &[u8]) -> bool {
-    match rt.write_all(bytes) {
-        Ok(()) => true,
-        Err(error) => {
-            tell(rt, "standard output", error);
-            false
-        }
-    }
+// Writes to standard output.
+pub fn write(rt: &(impl Print + Eprint), bytes: &[u8]) -> Result<(), Told> {
+    rt.write_all(bytes)
+        .map_err(|error| tell(rt, "standard output", error))
 }
 
-// Whether standard input and output are open. A file that is opened gets the lowest free descriptor, so this is tested first, and
-// where standard error is closed its place is taken by the null device: no message can then land in a file.
-pub fn are_open(
+// Fails where standard input or output is not open. A file that is opened gets the lowest free descriptor, so this is tested first,
+// and where standard error is closed its place is taken by the null device: no message can then land in a file.
+pub fn check_open(
     rt: &(impl Print + Eprint + Files),
     input: &mut impl Read,
     errors: &mut impl Write,
-) -> bool {
-    let mut none = [0u8; 0];
-    if let Err(error) = input.read(&mut none) {
-        tell(rt, "standard input", error);
-        return false;
+) -> Result<(), Told> {
+    input
+        .read(&mut [])
+        .map_err(|error| tell(rt, "standard input", error))?;
+    rt.write_some(&[])
+        .map_err(|error| tell(rt, "standard output", error))?;
+    if errors.write(&[]).is_err() {
+        // Where this fails, nobody is left to tell.
+        take_place(rt).map_err(|_| Told)?;
     }
-    if let Err(error) = rt.write_some(&none) {
-        tell(rt, "standard output", error);
-        return false;
-    }
-    if errors.write(&none).is_err() {
-        return take_place(rt);
-    }
-    true
+    Ok(())
 }
 
 // Opens the null device for as long as the program runs.
-fn take_place(files: &impl Files) -> bool {
-    match OpenOptions::new().write(true).open(files, "/dev/null") {
-        Ok(null) => {
-            mem::forget(null);
-            true
-        }
-        Err(_) => false,
-    }
+fn take_place(files: &impl Files) -> io::Result<()> {
+    mem::forget(OpenOptions::new().write(true).open(files, "/dev/null")?);
+    Ok(())
 }
 
 // Whether the program was started with an argument of this number; its own name is number 0.
 pub fn has_argument(rt: &impl Env, number: usize) -> bool {
-    let mut none = [0u8; 0];
-    match rt.arg(number, &mut none) {
-        Err(FillError::NotPresent) => false,
-        _ => true,
-    }
+    !matches!(rt.arg(number, &mut []), Err(FillError::NotPresent))
 }

@@ -8,7 +8,6 @@ use lib.Dec.{eqb}
 use lib.ListN.{length, take, replicate}
 use borrow.Author.Tests.{eqb-false}
 use Rattle.syntax.specs.Class.{Class, foreign, closing, ampersand, bar, greater, equals, blank, tilde, opening, nought, lowercase, class_of, tokens, after}
-use Rattle.syntax.specs.Code.{code_of}
 use Rattle.ipl.specs.Formula.{Formula}
 use Rattle.syntax.specs.Grammar.{negation, implication, equivalence, Parses, a_letter, a_falsum, inside, no_and, no_or, no_implies, by_equal, IsFormula, Begins}
 use Rattle.syntax.specs.Refusal.{Longest}
@@ -89,7 +88,7 @@ ready_step (had e E) (lowercase l) u n r = tt
 
 -- A text more.
 ready_text : (s : List ℕ) (a : State) (u : List Class) → Ready a u → Ready (after move a (tokens s)) (u ++ tokens s)
-unfolding after tokens code_of
+unfolding after tokens
 ready_text [] a u r = subst (Ready a) (sym (append-nil u)) r
 ready_text (b ∷ s) a u r = go (λ e v q. ready_text s e v q) (eqb b 32) refl
   where
@@ -98,7 +97,7 @@ ready_text (b ∷ s) a u r = go (λ e v q. ready_text s e v q) (eqb b 32) refl
     go ih true q = ih a u r
     go ih false q =
         subst (Ready (after move (move a (class_of b)) (tokens s))) (append_assoc u (class_of b ∷ []) (tokens s))
-        (ih (move a (class_of b)) (u ++ (class_of b ∷ [])) (ready_step a (class_of b) u (λ e. eqb-false b 32 q (blank_byte b (ap code_of e))) r))
+        (ih (move a (class_of b)) (u ++ (class_of b ∷ [])) (ready_step a (class_of b) u (λ e. eqb-false b 32 q (blank_byte b e)) r))
 
 ready_start : Ready start []
 ready_start f c g done = subst (Some equivalence) (sym (append-nil f)) g

@@ -1,26 +1,26 @@
--- Laws of classes: from a number back to its class, a byte's class, what spaces leave, and the fold over a text.
-use mathlib.Core.Bool.{true, false, cond, ◌&&◌}
+-- Laws of classes: those of the code, a byte's class, what spaces leave, and the fold over a text.
+use mathlib.Core.Bool.{true, cond, ◌&&◌}
 use mathlib.Core.List.{List, [], ◌∷◌, ◌++◌, map}
-use mathlib.Core.Logic.{◌⊎◌, inl, inr}
-use mathlib.Core.Path.{◌≡◌, refl, sym, ◌∙◌, ap, subst}
+use mathlib.Core.Path.{◌≡◌, refl, sym, ◌∙◌, ap}
 use Prim.Native.Nat.{ℕ, ◌+◌, ◌-◌, ◌≤◌, ◌<◌}
 use native.Mathlib.Numerals.{add-one}
-use native.Mathlib.Omega.{arith}
 use lib.Dec.{eqb, leb, leb→le}
 use lib.ListN.{length, get_or, drop, drop_of_length-le}
 use lib.Seq.{drop-cons}
-use borrow.Author.Tests.{eq-eqb, eqb-false, eqb-true, le-leb, leb-false, leb-true, lt-leb, ne_eqb}
+use borrow.Author.Tests.{eq-eqb, eqb-false, eqb-true, le-leb, ne_eqb}
 use Rattle.atoms.proofs.Truth.{by_cond, T_left, T_right, true_T}
 use Rattle.syntax.specs.Class.{Class, foreign, closing, ampersand, bar, greater, equals, blank, tilde, opening, nought, lowercase}
 use Rattle.syntax.specs.Class.{class_of, tokens, after}
-use Rattle.syntax.specs.Code.{code_of, decode, joins, is_letter, is_leaf}
+use Rattle.syntax.specs.Code.{decode}
 use Rattle.syntax.specs.Descent.{rest}
+use Rattle.syntax.specs.declared.bytes.Class as code
+use Rattle.syntax.specs.declared.bytes.Class.TheVariants as class
 
 -- What the test of a letter says.
 letter_bounds : (b : ℕ) → leb 97 b && leb b 122 ≡ true → (97 ≤ b) × (b ≤ 122)
 letter_bounds b e = (leb→le 97 b (T_left (leb 97 b) (leb b 122) (true_T e)), leb→le b 122 (T_right (leb 97 b) (leb b 122) (true_T e)))
 
--- What holds of each class, given its bytes or its number, holds of the class of every byte and of every number.
+-- What holds of each class, given its bytes, holds of the class of every byte.
 module _ (P : Class → Type 0) (n : ℕ) where
   number_or : (m : ℕ) (c d : Class) → (n ≡ m → P c) → ((n ≡ m → ⊥) → P d) → P (cond (eqb n m) c d)
   number_or m c d f g = by_cond P (eqb n m) c d (λ e. f (eqb-true n m e)) (λ e. g (eqb-false n m e))
@@ -35,108 +35,47 @@ module _ (P : Class → Type 0) (n : ℕ) where
       number_or 61 _ _ equal (λ _. number_or 48 _ _ falsum (λ _. number_or 40 _ _ opens (λ _. number_or 41 _ _ shuts (λ _.
       number_or 32 _ _ space (λ _. by_cond P (leb 97 n && leb n 122) _ _ (λ e. l (letter_bounds n e).0 (letter_bounds n e).1) (λ e. p))))))))))
 
-  next_number : (m : ℕ) (c d : Class) → m ≤ n → (n ≡ m → P c) → (m + 1 ≤ n → P d) → P (cond (eqb n m) c d)
-  next_number m c d h f g = number_or m c d f (λ e. g (omega arith))
+-- Two classes of the code are the same where they stand for one class.
+encode : Class → code.Class
+encode foreign = class.Foreign
+encode closing = class.Closing
+encode ampersand = class.And
+encode bar = class.Or
+encode greater = class.Implies
+encode equals = class.Equals
+encode blank = class.Blank
+encode tilde = class.Not
+encode opening = class.Opening
+encode nought = class.Falsum
+encode (lowercase l) = class.Letter l
 
-  pub by_number :
-      (n ≡ 0 → P foreign) → (n ≡ 1 → P closing) → (n ≡ 2 → P ampersand) → (n ≡ 3 → P bar) → (n ≡ 4 → P greater)
-      → (n ≡ 5 → P equals) → (n ≡ 6 → P blank) → (n ≡ 7 → P tilde) → (n ≡ 8 → P opening) → (n ≡ 9 → P nought)
-      → (10 ≤ n → P (lowercase (n - 10))) → P (decode n)
-  by_number f0 f1 f2 f3 f4 f5 f6 f7 f8 f9 l =
-      next_number 0 _ _ (omega arith) f0 (λ n1. next_number 1 _ _ n1 f1 (λ n2. next_number 2 _ _ n2 f2 (λ n3.
-      next_number 3 _ _ n3 f3 (λ n4. next_number 4 _ _ n4 f4 (λ n5. next_number 5 _ _ n5 f5 (λ n6.
-      next_number 6 _ _ n6 f6 (λ n7. next_number 7 _ _ n7 f7 (λ n8. next_number 8 _ _ n8 f8 (λ n9. next_number 9 _ _ n9 f9 l)))))))))
+encode_back : (c : code.Class) → encode (decode c) ≡ c
+unfolding encode
+encode_back class.Foreign = refl
+encode_back class.Closing = refl
+encode_back class.And = refl
+encode_back class.Or = refl
+encode_back class.Implies = refl
+encode_back class.Equals = refl
+encode_back class.Blank = refl
+encode_back class.Not = refl
+encode_back class.Opening = refl
+encode_back class.Falsum = refl
+encode_back (class.Letter l) = refl
 
--- The tests by a class's number.
-module _ (n : ℕ) where
-  decode_letter : 10 ≤ n → decode n ≡ lowercase (n - 10)
-  decode_letter h =
-      by_number (λ (c : Class). c ≡ lowercase (n - 10)) n
-      (λ e. absurd (omega arith)) (λ e. absurd (omega arith)) (λ e. absurd (omega arith)) (λ e. absurd (omega arith)) (λ e. absurd (omega arith))
-      (λ e. absurd (omega arith)) (λ e. absurd (omega arith)) (λ e. absurd (omega arith)) (λ e. absurd (omega arith)) (λ e. absurd (omega arith))
-      (λ _. refl)
+pub same_class : (c d : code.Class) → decode c ≡ decode d → c ≡ d
+same_class c d e = sym (encode_back c) ∙ ap encode e ∙ encode_back d
 
-  pub letter_test : leb 10 n ≡ is_letter (decode n)
-  unfolding is_letter
-  letter_test =
-      by_number (λ c. leb 10 n ≡ is_letter c) n
-      (λ e. lt-leb 10 n (omega arith)) (λ e. lt-leb 10 n (omega arith)) (λ e. lt-leb 10 n (omega arith)) (λ e. lt-leb 10 n (omega arith))
-      (λ e. lt-leb 10 n (omega arith)) (λ e. lt-leb 10 n (omega arith)) (λ e. lt-leb 10 n (omega arith)) (λ e. lt-leb 10 n (omega arith))
-      (λ e. lt-leb 10 n (omega arith)) (λ e. lt-leb 10 n (omega arith)) (λ h. le-leb 10 n h)
+-- The bytes of a space and of `(`.
+pub blank_byte : (b : ℕ) → class_of b ≡ blank → b ≡ 32
+blank_byte b =
+    by_byte (λ c. c ≡ blank → b ≡ 32) b (λ _ (e : tilde ≡ blank). cc) (λ _ (e : ampersand ≡ blank). cc) (λ _ (e : bar ≡ blank). cc) (λ _ (e : greater ≡ blank). cc) (λ _ (e : equals ≡ blank). cc)
+    (λ _ (e : nought ≡ blank). cc) (λ _ (e : opening ≡ blank). cc) (λ _ (e : closing ≡ blank). cc) (λ h _. h) (λ _ _ (e : lowercase (b - 97) ≡ blank). cc) (λ (e : foreign ≡ blank). cc)
 
-  pub letter_number : is_letter (decode n) ≡ true → 10 ≤ n
-  letter_number e = leb-true 10 n (letter_test ∙ e)
-
-  pub other_number : is_letter (decode n) ≡ false → n ≤ 9
-  other_number e = omega (arith, leb-false 10 n (letter_test ∙ e))
-
-  pub leaf_letter : (n ≡ 9 → ⊥) → is_letter (decode n) ≡ is_leaf (decode n)
-  unfolding is_letter is_leaf
-  leaf_letter h =
-      by_number (λ c. is_letter c ≡ is_leaf c) n
-      (λ _. refl) (λ _. refl) (λ _. refl) (λ _. refl) (λ _. refl) (λ _. refl) (λ _. refl) (λ _. refl) (λ _. refl) (λ e. absurd (h e)) (λ _. refl)
-
-  pub binary : 2 ≤ n → n < 6 → true ≡ joins (decode n)
-  unfolding joins
-  binary low high =
-      by_number (λ c. true ≡ joins c) n
-      (λ e. absurd (omega arith)) (λ e. absurd (omega arith)) (λ _. refl) (λ _. refl) (λ _. refl) (λ _. refl)
-      (λ e. absurd (omega arith)) (λ e. absurd (omega arith)) (λ e. absurd (omega arith)) (λ e. absurd (omega arith)) (λ h. absurd (omega arith))
-
-  pub no_binary : (n < 2) ⊎ (6 ≤ n) → false ≡ joins (decode n)
-  unfolding joins
-  no_binary (inl h) =
-      by_number (λ c. false ≡ joins c) n
-      (λ _. refl) (λ _. refl) (λ e. absurd (omega arith)) (λ e. absurd (omega arith)) (λ e. absurd (omega arith)) (λ e. absurd (omega arith))
-      (λ _. refl) (λ _. refl) (λ _. refl) (λ _. refl) (λ _. refl)
-  no_binary (inr h) =
-      by_number (λ c. false ≡ joins c) n
-      (λ _. refl) (λ _. refl) (λ e. absurd (omega arith)) (λ e. absurd (omega arith)) (λ e. absurd (omega arith)) (λ e. absurd (omega arith))
-      (λ _. refl) (λ _. refl) (λ _. refl) (λ _. refl) (λ _. refl)
-
-decode_code : (c : Class) → decode (code_of c) ≡ c
-unfolding code_of
-decode_code foreign = refl
-decode_code closing = refl
-decode_code ampersand = refl
-decode_code bar = refl
-decode_code greater = refl
-decode_code equals = refl
-decode_code blank = refl
-decode_code tilde = refl
-decode_code opening = refl
-decode_code nought = refl
-decode_code (lowercase l) = decode_letter (10 + l) (omega arith) ∙ ap lowercase (omega arith)
-
-pub class_is : (c : Class) (n : ℕ) → n ≡ code_of c → c ≡ decode n
-class_is c n e = sym (decode_code c) ∙ ap decode (sym e)
-
--- The byte of each class that is not foreign.
-abbrev byte_of : Class → ℕ
-byte_of foreign = 0
-byte_of closing = 41
-byte_of ampersand = 38
-byte_of bar = 124
-byte_of greater = 62
-byte_of equals = 61
-byte_of blank = 32
-byte_of tilde = 126
-byte_of opening = 40
-byte_of nought = 48
-byte_of (lowercase l) = 97 + l
-
-byte_is : (b n : ℕ) → code_of (class_of b) ≡ n → 0 < n → b ≡ byte_of (decode n)
-unfolding code_of
-byte_is b n e z =
-    subst (λ (c : Class). b ≡ byte_of c) (class_is (class_of b) n (sym e))
-    (by_byte (λ c. 0 < code_of c → b ≡ byte_of c) b (λ h _. h) (λ h _. h) (λ h _. h) (λ h _. h) (λ h _. h) (λ h _. h) (λ h _. h) (λ h _. h) (λ h _. h)
-    (λ low high _. omega arith) (λ f. absurd (omega arith)) (omega arith))
-
-pub blank_byte : (b : ℕ) → code_of (class_of b) ≡ 6 → b ≡ 32
-blank_byte b e = byte_is b 6 e (omega arith)
-
-pub opening_byte : (b : ℕ) → code_of (class_of b) ≡ 8 → b ≡ 40
-opening_byte b e = byte_is b 8 e (omega arith)
+pub opening_byte : (b : ℕ) → class_of b ≡ opening → b ≡ 40
+opening_byte b =
+    by_byte (λ c. c ≡ opening → b ≡ 40) b (λ _ (e : tilde ≡ opening). cc) (λ _ (e : ampersand ≡ opening). cc) (λ _ (e : bar ≡ opening). cc) (λ _ (e : greater ≡ opening). cc) (λ _ (e : equals ≡ opening). cc)
+    (λ _ (e : nought ≡ opening). cc) (λ h _. h) (λ _ (e : closing ≡ opening). cc) (λ _ (e : blank ≡ opening). cc) (λ _ _ (e : lowercase (b - 97) ≡ opening). cc) (λ (e : foreign ≡ opening). cc)
 
 -- A byte that is no sign: its class is a letter's or the foreign one.
 abbrev NoSign : ℕ → Type 0
@@ -160,13 +99,11 @@ module _ (b : ℕ) (none : NoSign b) where
         ne_eqb b 32 space,
       )
 
-  pub letter_byte : 97 ≤ b → b ≤ 122 → 10 + (b - 97) ≡ code_of (class_of b)
-  unfolding code_of
+  pub letter_byte : 97 ≤ b → b ≤ 122 → lowercase (b - 97) ≡ class_of b
   letter_byte low high = rw (letter_or_foreign, le-leb 97 b low, le-leb b 122 high)
 
-  pub foreign_byte : ((97 ≤ b) × (b ≤ 122) → ⊥) → 0 ≡ code_of (class_of b)
-  unfolding code_of
-  foreign_byte no-letter = rw letter_or_foreign (by_cond (λ c. 0 ≡ code_of c) (leb 97 b && leb b 122) _ _ (λ e. absurd (no-letter (letter_bounds b e))) (λ _. refl))
+  pub foreign_byte : ((97 ≤ b) × (b ≤ 122) → ⊥) → foreign ≡ class_of b
+  foreign_byte no-letter = rw letter_or_foreign (by_cond (λ c. foreign ≡ c) (leb 97 b && leb b 122) _ _ (λ e. absurd (no-letter (letter_bounds b e))) (λ _. refl))
 
 -- The tokens from a position on.
 module _ (s : List ℕ) (i : ℕ) where

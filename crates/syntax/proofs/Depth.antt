@@ -1,5 +1,6 @@
 -- Refusal 2, beginning by beginning.
-use mathlib.Core.Bool.{cond}
+use mathlib.Core.Bool.{Bool, true, false, cond}
+use mir.Val.{bool_byte}
 use mathlib.Core.List.{List, [], ◌∷◌, ◌++◌}
 use mathlib.Core.Path.{◌≡◌, refl, sym, ◌∙◌, subst}
 use Prim.Native.Nat.{ℕ, suc, ◌+◌, ◌≤◌, ◌<◌}
@@ -20,6 +21,13 @@ count_snoc x (a ∷ u) b =
     let ih = count_snoc x u b in
     by_cond (λ (n : ℕ). cond (eqb a x) (suc (count x (u ++ (b ∷ [])))) (count x (u ++ (b ∷ []))) ≡ n + is_byte x b) (eqb a x) (suc (count x u)) (count x u)
     (λ e. rw e (omega arith)) (λ e. rw e (omega arith))
+
+pub bool_cond : (t : Bool) → bool_byte t ≡ cond t 1 0
+bool_cond true = refl
+bool_cond false = refl
+
+pub one_byte : (x b : ℕ) → is_byte x b ≤ 1
+one_byte x b = by_cond (λ (n : ℕ). n ≤ 1) (eqb b x) 1 0 (λ e. omega arith) (λ e. omega arith)
 
 -- The counts of the first i bytes; none of those beginnings is too deep.
 pub record Shallow (s : List ℕ) (opened closed i : ℕ) : Type 0 where
@@ -49,7 +57,7 @@ module _ (s : List ℕ) where
   counts i w x = rw (add-one, take-suc s i 0) (count_snoc x (take i s) (get_or s i 0))
 
   module _ (opened closed i : ℕ) (h : Shallow s opened closed i) (w : i < length s) where
-    module _ (a b : ℕ) (ea : a ≡ is_byte 40 (get_or s i 0)) (eb : b ≡ is_byte 41 (get_or s i 0)) (ha : a ≤ 1) (hb : b ≤ 1) where
+    module _ (a b : ℕ) (ea : a ≡ is_byte 40 (get_or s i 0)) (eb : b ≡ is_byte 41 (get_or s i 0)) where
       pub found_deep : most_open + (closed + b) < opened + a → TooDeep s
       found_deep d = (i + 1, omega (arith, counts i w 40, counts i w 41, h.opened_is, h.closed_is, ea, eb))
 
@@ -58,8 +66,8 @@ module _ (s : List ℕ) where
         inside = omega arith;
         opened_is = omega (arith, counts i w 40, h.opened_is, ea);
         closed_is = omega (arith, counts i w 41, h.closed_is, eb);
-        opened_small = omega (arith, h.opened_small);
-        closed_small = omega (arith, h.closed_small);
+        opened_small = omega (arith, h.opened_small, ea, one_byte 40 (get_or s i 0));
+        closed_small = omega (arith, h.closed_small, eb, one_byte 41 (get_or s i 0));
         none = λ k l t. elim (dec_lt k (i + 1)) [
           | yes e ↦ h.none k (omega arith) t
           | no e ↦ let q : k ≡ i + 1 = omega arith in n (last (subst (λ (j : ℕ). TooDeepAt s j) q t))

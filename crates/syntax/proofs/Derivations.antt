@@ -1,15 +1,13 @@
 -- Operands by their derivations: what stands at the front of the tokens, at each level.
 use mathlib.Core.List.{List, [], ◌∷◌, ◌++◌, append_assoc}
-use mathlib.Core.Path.{◌≡◌, refl, sym, ◌∙◌, ap}
+use mathlib.Core.Path.{◌≡◌, refl, sym, ◌∙◌, subst}
 use Prim.Native.Nat.{ℕ}
-use native.Mathlib.Omega.{arith}
 use Rattle.ipl.specs.Formula.{Formula, iff}
 use Rattle.syntax.specs.Class.{Class, closing, ampersand, bar, greater, equals, tilde, opening, nought, lowercase}
-use Rattle.syntax.specs.Code.{code_of}
 use Rattle.syntax.specs.Grammar.{Level, negation, conjunction, disjunction, implication, equivalence, Parses, a_letter, a_falsum}
 use Rattle.syntax.specs.Grammar.{by_not, inside, no_and, by_and, no_or, by_or, no_implies, by_implies, no_equal, by_equal}
 use Rattle.syntax.specs.Nodes.{Connective, And, Or, Implies, connected}
-use Rattle.syntax.specs.Descent.{head_code, tail, NotNext, Stops, Stands}
+use Rattle.syntax.specs.Descent.{NotNext, Stops, Stands}
 
 -- ---- one operand
 
@@ -21,8 +19,7 @@ pub data Single (l : List Class) (f : Formula) (behind : List Class) : Type 0 wh
   enclosed : (m : List Class) → l ≡ opening ∷ m → Stands equivalence m f (closing ∷ behind) → Single l f behind
 
 closing_stops : (b : List Class) → Stops equivalence (closing ∷ b)
-unfolding code_of
-closing_stops b = (λ e. omega arith, λ e. omega arith, λ e. omega arith, λ e. omega arith)
+closing_stops b = (λ m e. cc, λ m e. cc, λ m e. cc, λ m e. cc)
 
 pub single : (l : List Class) (f : Formula) (behind : List Class) → Stands negation l f behind → Single l f behind
 unfolding connected
@@ -63,14 +60,14 @@ module _ (a : Level) (op : Class) (c : Connective) where
     run = longer_run x.run (record { text = v; parsed = r; split = refl; stops = s });
   }
 
-  pub run_goes_on : {g f : Formula} {m b : List Class} → Run a op c g m f b → NotNext op b → head_code m ≡ code_of op
-      → (h : Formula) × (n : List Class) × Stands a (tail m) h n × Run a op c (connected c g h) n f b
-  run_goes_on done s e = absurd (s e)
-  run_goes_on (more {h = h} {n = n} x r) s e = (h, n, x, r)
+  pub run_goes_on : {g f : Formula} {m b : List Class} → Run a op c g m f b → NotNext op b → (l : List Class) → m ≡ op ∷ l
+      → (h : Formula) × (n : List Class) × Stands a l h n × Run a op c (connected c g h) n f b
+  run_goes_on done s l e = absurd (s l e)
+  run_goes_on (more {h = h} {m = m} {n = n} x r) s l e = let k : m ≡ l = cc in (h, n, subst (λ (l : List Class). Stands a l h n) k x, r)
 
   pub run_ends : {g f : Formula} {m b : List Class} → Run a op c g m f b → NotNext op m → (g ≡ f) × (m ≡ b)
   run_ends done s = (refl, refl)
-  run_ends (more x r) s = absurd (s refl)
+  run_ends (more {m = m} x r) s = absurd (s m refl)
 
 pub first_and : (l : List Class) (f : Formula) (b : List Class) → Stands conjunction l f b → First negation ampersand And l f b
 unfolding connected
@@ -81,12 +78,12 @@ first_and l f b x = rw x.split (go x.parsed b)
     go (by_and {u} {v} {p} {q} r s) b = longer negation ampersand And u v p q b (go r (ampersand ∷ (v ++ b))) s tt
 
 pub first_or : (l : List Class) (f : Formula) (b : List Class) → Stands disjunction l f b → First conjunction bar Or l f b
-unfolding connected code_of
+unfolding connected
 first_or l f b x = rw x.split (go x.parsed b x.stops.0)
   where
     go : {u : List Class} {g : Formula} → Parses disjunction u g → (b : List Class) → NotNext ampersand b → First conjunction bar Or (u ++ b) g b
     go (no_or {u} r) b s = record { operand = _; next = b; stands = record { text = u; parsed = r; split = refl; stops = s }; run = done }
-    go (by_or {u} {v} {p} {q} r q') b s = longer conjunction bar Or u v p q b (go r (bar ∷ (v ++ b)) (λ e. omega arith)) q' s
+    go (by_or {u} {v} {p} {q} r q') b s = longer conjunction bar Or u v p q b (go r (bar ∷ (v ++ b)) (λ m e. cc)) q' s
 
 -- ---- operators with one operand to the right
 
@@ -102,16 +99,16 @@ pub record Leads (a b : Level) (op : Class) (join : Formula → Formula → Form
   pub then : Then b op join operand next f behind
 
 module _ (b : Level) (op : Class) (join : Formula → Formula → Formula) {g f : Formula} {m z : List Class} where
-  pub then_goes_on : Then b op join g m f z → NotNext op z → head_code m ≡ code_of op → (h : Formula) × (f ≡ join g h) × Stands b (tail m) h z
-  then_goes_on (alone p q) s e = absurd (s (sym (ap head_code q) ∙ e))
-  then_goes_on (both h n p q x) s e = (h, q, rw p x)
+  pub then_goes_on : Then b op join g m f z → NotNext op z → (l : List Class) → m ≡ op ∷ l → (h : Formula) × (f ≡ join g h) × Stands b l h z
+  then_goes_on (alone p q) s l e = absurd (s l (sym q ∙ e))
+  then_goes_on (both h n p q x) s l e = let k : n ≡ l = cc in (h, q, subst (λ (l : List Class). Stands b l h z) k x)
 
   pub then_ends : Then b op join g m f z → NotNext op m → (g ≡ f) × (m ≡ z)
   then_ends (alone p q) s = (p, q)
-  then_ends (both h n p q x) s = absurd (s (ap head_code p))
+  then_ends (both h n p q x) s = absurd (s n p)
 
 pub leads_implies : (l : List Class) (f : Formula) (b : List Class) → Stands implication l f b → Leads disjunction implication greater (connected Implies) l f b
-unfolding connected code_of
+unfolding connected
 leads_implies l f b x = go x.parsed x.split x.stops
   where
     go : {u : List Class} {g : Formula} → Parses implication u g → l ≡ u ++ b → Stops implication b → Leads disjunction implication greater (connected Implies) l g b
@@ -119,12 +116,11 @@ leads_implies l f b x = go x.parsed x.split x.stops
     go (by_implies {u} {v} {p} {q} r t) e s = record {
       operand = p;
       next = greater ∷ (v ++ b);
-      stands = record { text = u; parsed = r; split = e ∙ append_assoc u (greater ∷ v) b; stops = (λ i. omega arith, λ i. omega arith) };
+      stands = record { text = u; parsed = r; split = e ∙ append_assoc u (greater ∷ v) b; stops = (λ m i. cc, λ m i. cc) };
       then = both q (v ++ b) refl refl (record { text = v; parsed = t; split = refl; stops = s });
     }
 
 pub leads_equal : (l : List Class) (f : Formula) (b : List Class) → Stands equivalence l f b → Leads implication implication equals iff l f b
-unfolding code_of
 leads_equal l f b x = go x.parsed x.split x.stops
   where
     go : {u : List Class} {g : Formula} → Parses equivalence u g → l ≡ u ++ b → Stops equivalence b → Leads implication implication equals iff l g b
@@ -132,6 +128,6 @@ leads_equal l f b x = go x.parsed x.split x.stops
     go (by_equal {u} {v} {p} {q} r t) e s = record {
       operand = p;
       next = equals ∷ (v ++ b);
-      stands = record { text = u; parsed = r; split = e ∙ append_assoc u (equals ∷ v) b; stops = (λ i. omega arith, λ i. omega arith, λ i. omega arith) };
+      stands = record { text = u; parsed = r; split = e ∙ append_assoc u (equals ∷ v) b; stops = (λ m i. cc, λ m i. cc, λ m i. cc) };
       then = both q (v ++ b) refl refl (record { text = v; parsed = t; split = refl; stops = (s.0, s.1, s.2) });
     }

@@ -1,5 +1,5 @@
 -- The scan for refusal 3, byte by byte.
-use mathlib.Core.Bool.{Bool, true, false, true≢false, false≢true}
+use mathlib.Core.Bool.{Bool, true, false}
 use mathlib.Core.List.{List, [], ◌∷◌, map}
 use mathlib.Core.Path.{◌≡◌, refl, sym, ◌∙◌, ap}
 use Prim.Native.Nat.{ℕ, suc, ◌+◌, ◌≤◌, ◌<◌}
@@ -12,11 +12,13 @@ use lib.Seq.{drop-cons}
 use Rattle.atoms.specs.Words.{num}
 use Rattle.atoms.specs.declared.AtomSet.{AtomSet}
 use Rattle.syntax.specs.Class.{Class, blank, class_of, after}
-use Rattle.syntax.specs.Code.{code_of, decode, joins, is_leaf}
 use Rattle.syntax.specs.Refusal.{count, most_open, TooDeep}
 use Rattle.syntax.specs.Scan.{State, misfit, wanted, had, start, move, ends, unless_misfit, fitting, levels_in, state_of, MayOpen, scanned}
+use Rattle.syntax.specs.Code.{decode}
+use Rattle.syntax.specs.declared.bytes.Class as code
+use Rattle.syntax.specs.declared.bytes.Class.TheVariants as class
 use Rattle.syntax.specs.declared.scan.Levels.{Levels}
-use Rattle.syntax.proofs.Class.{by_number, class_is, opening_byte, after_byte, after_end}
+use Rattle.syntax.proofs.Class.{opening_byte, after_byte, after_end}
 use Rattle.syntax.proofs.Depth.{counts}
 use Rattle.syntax.proofs.Levels.{open_ends, depth_balanced}
 
@@ -26,43 +28,35 @@ blank_stays misfit = refl
 blank_stays (wanted e E) = refl
 blank_stays (had e E) = refl
 
--- The turn of a token, by its class's number: a space; where an operand is wanted; after one.
-pub blank_turn : (a : State) (n : ℕ) → n ≡ 6 → a ≡ move a (decode n)
-blank_turn a n e = rw e (sym (blank_stays a))
-
-module _ (e : Bool) (E : List Bool) (n : ℕ) where
-  pub not_turn : n ≡ 7 → wanted e E ≡ move (wanted e E) (decode n)
+-- What does not fit: where an operand is wanted, and after one.
+module _ (e : Bool) (E : List Bool) where
+  pub wanted_misfit : (c : code.Class) → (c ≡ class.Blank → ⊥) → (c ≡ class.Not → ⊥) → (c ≡ class.Opening → ⊥) → (c ≡ class.Falsum → ⊥) → ((l : ℕ) → c ≡ class.Letter l → ⊥) → misfit ≡ move (wanted e E) (decode c)
   unfolding move
-  not_turn q = rw q
+  wanted_misfit class.Foreign no-blank no-not no-opening no-falsum no-letter = refl
+  wanted_misfit class.Closing no-blank no-not no-opening no-falsum no-letter = refl
+  wanted_misfit class.And no-blank no-not no-opening no-falsum no-letter = refl
+  wanted_misfit class.Or no-blank no-not no-opening no-falsum no-letter = refl
+  wanted_misfit class.Implies no-blank no-not no-opening no-falsum no-letter = refl
+  wanted_misfit class.Equals no-blank no-not no-opening no-falsum no-letter = refl
+  wanted_misfit class.Blank no-blank no-not no-opening no-falsum no-letter = absurd (no-blank refl)
+  wanted_misfit class.Not no-blank no-not no-opening no-falsum no-letter = absurd (no-not refl)
+  wanted_misfit class.Opening no-blank no-not no-opening no-falsum no-letter = absurd (no-opening refl)
+  wanted_misfit class.Falsum no-blank no-not no-opening no-falsum no-letter = absurd (no-falsum refl)
+  wanted_misfit (class.Letter l) no-blank no-not no-opening no-falsum no-letter = absurd (no-letter l refl)
 
-  pub leaf_turn : is_leaf (decode n) ≡ true → had e E ≡ move (wanted e E) (decode n)
-  unfolding is_leaf move
-  leaf_turn =
-      by_number (λ c. is_leaf c ≡ true → had e E ≡ move (wanted e E) c) n
-      (λ _ f. absurd (false≢true f)) (λ _ f. absurd (false≢true f)) (λ _ f. absurd (false≢true f)) (λ _ f. absurd (false≢true f))
-      (λ _ f. absurd (false≢true f)) (λ _ f. absurd (false≢true f)) (λ _ f. absurd (false≢true f)) (λ _ f. absurd (false≢true f))
-      (λ _ f. absurd (false≢true f)) (λ _ _. refl) (λ _ _. refl)
-
-  pub wanted_misfit : (n ≡ 6 → ⊥) → (n ≡ 7 → ⊥) → (n ≡ 8 → ⊥) → is_leaf (decode n) ≡ false → misfit ≡ move (wanted e E) (decode n)
-  unfolding is_leaf move
-  wanted_misfit space not opens =
-      by_number (λ c. is_leaf c ≡ false → misfit ≡ move (wanted e E) c) n
-      (λ _ _. refl) (λ _ _. refl) (λ _ _. refl) (λ _ _. refl) (λ _ _. refl) (λ _ _. refl) (λ q _. absurd (space q)) (λ q _. absurd (not q))
-      (λ q _. absurd (opens q)) (λ _ f. absurd (true≢false f)) (λ _ f. absurd (true≢false f))
-
-  pub binary_turn : (n ≡ 5 → ⊥) → joins (decode n) ≡ true → wanted e E ≡ move (had e E) (decode n)
-  unfolding joins move
-  binary_turn equal =
-      by_number (λ c. joins c ≡ true → wanted e E ≡ move (had e E) c) n
-      (λ _ f. absurd (false≢true f)) (λ _ f. absurd (false≢true f)) (λ _ _. refl) (λ _ _. refl) (λ _ _. refl) (λ q _. absurd (equal q))
-      (λ _ f. absurd (false≢true f)) (λ _ f. absurd (false≢true f)) (λ _ f. absurd (false≢true f)) (λ _ f. absurd (false≢true f)) (λ _ f. absurd (false≢true f))
-
-  pub had_misfit : (n ≡ 6 → ⊥) → (n ≡ 1 → ⊥) → joins (decode n) ≡ false → misfit ≡ move (had e E) (decode n)
-  unfolding joins move
-  had_misfit space shut =
-      by_number (λ c. joins c ≡ false → misfit ≡ move (had e E) c) n
-      (λ _ _. refl) (λ q _. absurd (shut q)) (λ _ f. absurd (true≢false f)) (λ _ f. absurd (true≢false f)) (λ _ f. absurd (true≢false f))
-      (λ _ f. absurd (true≢false f)) (λ q _. absurd (space q)) (λ _ _. refl) (λ _ _. refl) (λ _ _. refl) (λ _ _. refl)
+  pub had_misfit : (c : code.Class) → (c ≡ class.Blank → ⊥) → (c ≡ class.Closing → ⊥) → (c ≡ class.Equals → ⊥) → (c ≡ class.And → ⊥) → (c ≡ class.Or → ⊥) → (c ≡ class.Implies → ⊥) → misfit ≡ move (had e E) (decode c)
+  unfolding move
+  had_misfit class.Foreign no-blank no-closing no-equals no-and no-or no-implies = refl
+  had_misfit class.Closing no-blank no-closing no-equals no-and no-or no-implies = absurd (no-closing refl)
+  had_misfit class.And no-blank no-closing no-equals no-and no-or no-implies = absurd (no-and refl)
+  had_misfit class.Or no-blank no-closing no-equals no-and no-or no-implies = absurd (no-or refl)
+  had_misfit class.Implies no-blank no-closing no-equals no-and no-or no-implies = absurd (no-implies refl)
+  had_misfit class.Equals no-blank no-closing no-equals no-and no-or no-implies = absurd (no-equals refl)
+  had_misfit class.Blank no-blank no-closing no-equals no-and no-or no-implies = absurd (no-blank refl)
+  had_misfit class.Not no-blank no-closing no-equals no-and no-or no-implies = refl
+  had_misfit class.Opening no-blank no-closing no-equals no-and no-or no-implies = refl
+  had_misfit class.Falsum no-blank no-closing no-equals no-and no-or no-implies = refl
+  had_misfit (class.Letter l) no-blank no-closing no-equals no-and no-or no-implies = refl
 
 pub misfit_stays : (l : List Class) → after move misfit l ≡ misfit
 unfolding after move
@@ -94,13 +88,12 @@ module _ (s : List ℕ) where
     unfolding fitting
     fitting_byte h = rw (add-one, drop-cons s i 0)
 
-    module _ (h : i < length s) (n : ℕ) (k : n ≡ code_of (class_of (get_or s i 0))) where
-      turned : (x : State) → x ≡ move (state_of w l) (decode n) → move (state_of w l) (class_of (get_or s i 0)) ≡ x
-      turned x e = ap (move (state_of w l)) (class_is (class_of (get_or s i 0)) n k) ∙ sym e
+    module _ (h : i < length s) (c : Class) (k : c ≡ class_of (get_or s i 0)) where
+      turned : (x : State) → x ≡ move (state_of w l) c → move (state_of w l) (class_of (get_or s i 0)) ≡ x
+      turned x e = ap (move (state_of w l)) (sym k) ∙ sym e
 
       -- The text has no beginning that is too deep.
-      pub scan_room : (TooDeep s → ⊥) → MayOpen l n
-      unfolding code_of
+      pub scan_room : (TooDeep s → ⊥) → MayOpen l c
       scan_room few e = elim (dec_lt l.depth most_open) [
         | yes less ↦ less
         | no more ↦
@@ -110,7 +103,7 @@ module _ (s : List ℕ) where
             absurd (few (i + 1, omega (arith, a.balance, one, none)))
       ]
 
-      pub scan_next : (v : Bool) (m : Levels) → state_of v m ≡ move (state_of w l) (decode n) → ScannedTo s v m (i + 1)
+      pub scan_next : (v : Bool) (m : Levels) → state_of v m ≡ move (state_of w l) c → ScannedTo s v m (i + 1)
       scan_next v m t =
           let e = turned (state_of v m) t in
           record {
@@ -120,7 +113,7 @@ module _ (s : List ℕ) where
             places = omega (arith, a.places, fitting_byte h ∙ ap fitting_from e ∙ fits_state v m (suc (fitting (state_of v m) (map class_of (drop (i + 1) s)))));
           }
 
-      pub scan_misfit : misfit ≡ move (state_of w l) (decode n) → (ends (scanned s) ≡ false) × (i ≡ fitting start (map class_of s))
+      pub scan_misfit : misfit ≡ move (state_of w l) c → (ends (scanned s) ≡ false) × (i ≡ fitting start (map class_of s))
       scan_misfit t =
           let m = turned misfit t in (
             ap ends (a.runs ∙ after_byte move (state_of w l) s i h ∙ ap (λ (x : State). after move x (map class_of (drop (i + 1) s))) m ∙ misfit_stays _),

@@ -1,28 +1,25 @@
 -- The levels with operators between operands: one law for each way in which a reader function goes on after an operand.
-use mathlib.Core.Bool.{true, false, false≢true}
 use mathlib.Core.List.{List}
-use mathlib.Core.Path.{◌≡◌, refl, sym, ◌∙◌, ap, subst}
+use mathlib.Core.Path.{◌≡◌, sym, ◌∙◌, ap, subst}
 use Prim.Native.Nat.{ℕ, ◌+◌, ◌≤◌, ◌<◌}
 use native.Mathlib.Omega.{arith}
 use lib.ListN.{length}
+use Rattle.std.specs.Prelude.{Option, Some, None}
 use Rattle.ipl.specs.Formula.{Formula, iff}
 use Rattle.syntax.specs.Class.{Class, ampersand, bar, greater, equals}
-use Rattle.syntax.specs.Code.{code_of}
 use Rattle.syntax.specs.Grammar.{Level, negation, conjunction, disjunction, implication, equivalence}
 use Rattle.syntax.specs.Nodes.{Connective, And, Or, Implies, Entry, Named, with_formula, connected}
 use Rattle.syntax.specs.Refusal.{most_names}
-use Rattle.syntax.specs.Parts.{held, Sound}
-use Rattle.syntax.specs.Table.{Holds, Makes, with_compound, with_equivalence}
-use Rattle.syntax.specs.Descent.{rest, head_code, tail, NextToken, NotNext, Stops, Stands, height, Exceeds, by_height, Asks, Gives}
+use Rattle.syntax.specs.Parts.{held}
+use Rattle.syntax.specs.Table.{Holds, Names, with_compound, with_equivalence}
+use Rattle.syntax.specs.Descent.{rest, NotNext, Comes, Stops, Stands, height, Exceeds, by_rows, by_height, Asks, Gives}
 use Rattle.syntax.specs.declared.Parts.{Parts}
-use Rattle.syntax.specs.declared.bytes.Token.{Token}
-use Rattle.syntax.specs.declared.table.Parsed.{Parsed}
+use Rattle.syntax.specs.declared.descent.Operand.{Operand}
 use Rattle.syntax.proofs.Once.{formula_once}
 use Rattle.syntax.proofs.Stands.{formula_stands}
-use Rattle.syntax.proofs.Held.{made_sound, made_next, made_fit}
 use Rattle.syntax.proofs.Derivations.{Run, done, more, First, run_goes_on, run_ends, first_and, first_or}
 use Rattle.syntax.proofs.Derivations.{Then, alone, both, Leads, then_goes_on, then_ends, leads_implies, leads_equal}
-use Rattle.syntax.proofs.Joined.{Joins, connected_joins, iff_joins, left_exceeds, joined_holds, joined_exceeds}
+use Rattle.syntax.proofs.Joined.{Joins, connected_joins, iff_joins, left_exceeds, then_exceeds, joined_named}
 
 -- ---- the levels
 
@@ -52,15 +49,18 @@ equivalences = record { joins = iff_joins; leads = leads_equal; stop = λ z x. x
 -- ---- the next operand
 
 module _ (s : List ℕ) (at : ℕ) (p : Parts) (d : ℕ) where
+  -- The parts of every operand that stands there are too many.
+  abbrev TooLarge : Level → Type 0
+  TooLarge k = (f : Formula) (z : List Class) → Stands k (rest s at) f z → Exceeds (held p) d f
+
   -- After one that was read, the next is asked for with its table.
-  asks_next : (k b : Level) → Asks k s at p d → (g : Formula) (left : Parsed) → Holds (with_formula (held p) g) left → Sound left.parts → (t : Token) → NextToken s left.next t
-      → (h : Formula) (z : List Class) → Stands b (rest s t.next) h z → (e : ℕ) → e ≤ most_names → Asks b s t.next left.parts e
-  asks_next k b asked g left x sound t next h z y e few = record {
+  asks_next : (k b : Level) → Asks k s at p d → (g : Formula) (q : Parts) (a : ℕ) → Holds (with_formula (held p) g) q a → (n : ℕ) → n ≤ length s
+      → (h : Formula) (z : List Class) → Stands b (rest s n) h z → (e : ℕ) → e ≤ most_names → Asks b s n q e
+  asks_next k b asked g q a x n inside h z y e few = record {
     formula = h;
     behind = z;
     stands = y;
-    inside = next.inside;
-    sound = sound;
+    inside = inside;
     ordered = rw x.table (formula_stands g (held p) asked.ordered).ordered;
     once = rw x.table (formula_once g (held p) asked.once);
     near = few;
@@ -68,29 +68,16 @@ module _ (s : List ℕ) (at : ℕ) (p : Parts) (d : ℕ) where
 
   asks_first : (k a : Level) → Asks k s at p d → (g : Formula) (z : List Class) → Stands a (rest s at) g z → Asks a s at p d
   asks_first k a asked g z x =
-      record { formula = g; behind = z; stands = x; inside = asked.inside; sound = asked.sound; ordered = asked.ordered; once = asked.once; near = asked.near }
-
-  -- The reading ended at a connective within too many others.
-  pub ended_deep : (k : Level) (r : Parsed) → r.fits ≡ false → at < r.next → r.next ≤ length s → Sound r.parts
-      → ((f : Formula) (z : List Class) → Stands k (rest s at) f z → most_names < d + height f) → Gives k s at p d r
-  ended_deep k r e forward inside sound tall = record {
-    forward = forward;
-    inside = inside;
-    sound = sound;
-    read = λ f z x t. absurd (false≢true (sym e ∙ t));
-    large = λ f z x t. by_height (tall f z x);
-  }
+      record { formula = g; behind = z; stands = x; inside = asked.inside; ordered = asked.ordered; once = asked.once; near = asked.near }
 
   -- ---- operators that group to the left
 
   module _ {k a : Level} {op : Class} {c : Connective} (G : LeftGrouped k a op c) where
-    -- What was read so far continues to the whole; or the whole is too large.
-    pub record Reached (r : Parsed) : Type 0 where
-      pub forward : at < r.next
-      pub inside : r.next ≤ length s
-      pub sound : Sound r.parts
-      read : (f : Formula) (z : List Class) → Stands k (rest s at) f z → r.fits ≡ true → (g : Formula) × Run a op c g (rest s r.next) f z × Holds (with_formula (held p) g) r
-      large : (f : Formula) (z : List Class) → Stands k (rest s at) f z → r.fits ≡ false → Exceeds (held p) d f
+    -- What was read so far continues to the whole.
+    pub record Reached (q : Parts) (o : Operand) : Type 0 where
+      pub forward : at < o.next
+      pub inside : o.next ≤ length s
+      read : (f : Formula) (z : List Class) → Stands k (rest s at) f z → (g : Formula) × Run a op c g (rest s o.next) f z × Holds (with_formula (held p) g) q o.root
 
     pub asks_one : Asks k s at p d → Asks a s at p d
     asks_one asked = let x = G.first (rest s at) asked.formula asked.behind asked.stands in asks_first k a asked x.operand x.next x.stands
@@ -100,67 +87,78 @@ module _ (s : List ℕ) (at : ℕ) (p : Parts) (d : ℕ) where
       run_exceeds done e = e
       run_exceeds (more {g} {h} x r) e = run_exceeds r (left_exceeds (connected_joins c) (held p) asked.ordered asked.once d g h d (omega arith) e)
 
-      pub one_reached : (r : Parsed) → Gives a s at p d r → Reached r
-      one_reached r y = record {
-        forward = y.forward;
-        inside = y.inside;
-        sound = y.sound;
-        read = λ f z x t.
+      pub one_exceeds : TooLarge a → TooLarge k
+      one_exceeds y f z x = let w = G.first (rest s at) f z x in run_exceeds w.run (y w.operand w.next w.stands)
+
+      pub one_reached : (q : Parts) (o : Operand) → Gives a s at p d q (Some o) → Reached q o
+      one_reached q o y = record {
+        forward = y.0;
+        inside = y.1;
+        read = λ f z x.
             let w = G.first (rest s at) f z x in
-            let v = y.read w.operand w.next w.stands t in
-            (w.operand, subst (λ (m : List Class). Run a op c w.operand m f z) (sym v.0) w.run, v.1);
-        large = λ f z x t.
-            let w = G.first (rest s at) f z x in
-            run_exceeds w.run (y.large w.operand w.next w.stands t);
+            let v = y.2 w.operand w.next w.stands in
+            (w.operand, subst (λ (m : List Class). Run a op c w.operand m f z) (sym v.behind_is) w.run, v.holds);
       }
 
       -- An operator and an operand more.
-      module _ (left : Parsed) (was : Reached left) (fit : left.fits ≡ true) (t : Token) (next : NextToken s left.next t) (e : t.class ≡ code_of op) where
-        comes : head_code (rest s left.next) ≡ code_of op
-        comes = sym next.class_is ∙ e
+      module _ (q : Parts) (o : Operand) (was : Reached q o) (n : ℕ) (comes : Comes s o.next op (Some n)) where
+        record Next (f : Formula) (z : List Class) : Type 0 where
+          left : Formula
+          right : Formula
+          behind : List Class
+          stands : Stands a (rest s n) right behind
+          run : Run a op c (connected c left right) behind f z
+          holds : Holds (with_formula (held p) left) q o.root
 
-        pub asks_more : Asks a s t.next left.parts d
+        next : (f : Formula) (z : List Class) → Stands k (rest s at) f z → Next f z
+        next f z x =
+            let v = was.read f z x in
+            let w = run_goes_on a op c v.1 (G.stop z x.stops) (rest s n) comes.0 in
+            record { left = v.0; right = w.0; behind = w.1; stands = w.2; run = w.3; holds = v.2 }
+
+        pub asks_more : Asks a s n q d
         asks_more =
-            let v = was.read asked.formula asked.behind asked.stands fit in
-            let w = run_goes_on a op c v.1 (G.stop asked.behind asked.stands.stops) comes in
-            asks_next k a asked v.0 left v.2 was.sound t next w.0 w.1 (rw next.left w.2) d asked.near
+            let x = next asked.formula asked.behind asked.stands in
+            asks_next k a asked x.left q o.root x.holds n comes.2 x.right x.behind x.stands d asked.near
 
-        pub more_reached : (right r : Parsed) → left.next < t.next → Gives a s t.next left.parts d right → Makes (with_compound c left.root) right r → Reached r
-        more_reached right r on y m = record {
-          forward = omega (arith, was.forward, y.forward, made_next _ right r m);
-          inside = omega (arith, y.inside, made_next _ right r m);
-          sound = made_sound _ right r y.sound m;
-          read = λ f z x u.
-              let v = was.read f z x fit in
-              let w = run_goes_on a op c v.1 (G.stop z x.stops) comes in
-              let q = y.read w.0 w.1 (rw next.left w.2) in
-              let behind = ap (rest s) (made_next _ right r m) ∙ (q (made_fit _ right r m u)).0 in (
-                connected c v.0 w.0,
-                subst (λ (n : List Class). Run a op c (connected c v.0 w.0) n f z) (sym behind) w.3,
-                joined_holds (connected_joins c) (held p) asked.ordered asked.once d v.0 w.0 left right r d (omega arith) v.2 (λ b. (q b).1)
-                    (y.large w.0 w.1 (rw next.left w.2)) m u,
-              );
-          large = λ f z x u.
-              let v = was.read f z x fit in
-              let w = run_goes_on a op c v.1 (G.stop z x.stops) comes in
-              let q = y.read w.0 w.1 (rw next.left w.2) in
-              run_exceeds w.3
-              (joined_exceeds (connected_joins c) (held p) asked.ordered asked.once d v.0 w.0 left right r d (omega arith) v.2 (λ b. (q b).1)
-              (y.large w.0 w.1 (rw next.left w.2)) m u);
-        }
+        pub more_exceeds : ((f : Formula) (z : List Class) → Stands a (rest s n) f z → Exceeds (held q) d f) → TooLarge k
+        more_exceeds y f z x =
+            let w = next f z x in
+            run_exceeds w.run
+            (then_exceeds (connected_joins c) (held p) asked.ordered asked.once d w.left w.right q o.root w.holds d (omega arith) (y w.right w.behind w.stands))
 
-      -- No operator more; or no room.
-      pub reached_end : (left : Parsed) → Reached left → (left.fits ≡ true → NotNext op (rest s left.next)) → Gives k s at p d left
-      reached_end left was ends = record {
-        forward = was.forward;
-        inside = was.inside;
-        sound = was.sound;
-        read = λ f z x u.
-            let v = was.read f z x u in
-            let w = run_ends a op c v.1 (ends u) in
-            (w.1, subst (λ (g : Formula). Holds (with_formula (held p) g) left) w.0 v.2);
-        large = was.large;
-      }
+        module _ (u : Parts) (r : Operand) (y : Gives a s n q d u (Some r)) (v : Parts) where
+          whole_named : (f : Formula) (z : List Class) (x : Stands k (rest s at) f z) (m : Option ℕ) → Names (with_compound c o.root (held u) r.root) v m
+              → Names (with_formula (held p) (connected c (next f z x).left (next f z x).right)) v m
+          whole_named f z x m named =
+              let w = next f z x in
+              joined_named (connected_joins c) (held p) asked.ordered asked.once d w.left w.right q o.root w.holds u r.root (y.2 w.right w.behind w.stands).holds v m named
+
+          pub more_full : Names (with_compound c o.root (held u) r.root) v None → TooLarge k
+          more_full named f z x = run_exceeds (next f z x).run (by_rows (whole_named f z x None named))
+
+          pub more_reached : (root : ℕ) → Names (with_compound c o.root (held u) r.root) v (Some root) → Reached v (record { root = root; next = r.next })
+          more_reached root named = record {
+            forward = omega (arith, was.forward, comes.1, y.0);
+            inside = y.1;
+            read = λ f z x.
+                let w = next f z x in (
+                  connected c w.left w.right,
+                  subst (λ (m : List Class). Run a op c (connected c w.left w.right) m f z) (sym (y.2 w.right w.behind w.stands).behind_is) w.run,
+                  whole_named f z x (Some root) named,
+                );
+          }
+
+      -- No operator more.
+      pub reached_end : (q : Parts) (o : Operand) → Reached q o → NotNext op (rest s o.next) → Gives k s at p d q (Some o)
+      reached_end q o was ends = (
+        was.forward,
+        was.inside,
+        λ f z x.
+            let v = was.read f z x in
+            let w = run_ends a op c v.1 ends in
+            record { behind_is = w.1; holds = subst (λ (g : Formula). Holds (with_formula (held p) g) q o.root) w.0 v.2 },
+      )
 
   -- ---- operators with one operand to the right
 
@@ -168,69 +166,73 @@ module _ (s : List ℕ) (at : ℕ) (p : Parts) (d : ℕ) where
     pub asks_left : Asks k s at p d → Asks a s at p d
     asks_left asked = let x = G.leads (rest s at) asked.formula asked.behind asked.stands in asks_first k a asked x.operand x.next x.stands
 
-    module _ (asked : Asks k s at p d) (left : Parsed) (y : Gives a s at p d left) where
-      then_exceeds : {g f : Formula} {m z : List Class} → Then b op join g m f z → Exceeds (held p) d g → Exceeds (held p) d f
-      then_exceeds (alone e q) x = subst (Exceeds (held p) d) e x
-      then_exceeds {g} (both h n q e i) x = subst (Exceeds (held p) d) (sym e) (left_exceeds G.joins (held p) asked.ordered asked.once d g h d (omega arith) x)
+    module _ (asked : Asks k s at p d) where
+      first_exceeds : {g f : Formula} {m z : List Class} → Then b op join g m f z → Exceeds (held p) d g → Exceeds (held p) d f
+      first_exceeds (alone e q) x = subst (Exceeds (held p) d) e x
+      first_exceeds {g} (both h n q e i) x = subst (Exceeds (held p) d) (sym e) (left_exceeds G.joins (held p) asked.ordered asked.once d g h d (omega arith) x)
 
-      -- The left operand is the whole; or it has no room.
-      pub left_only : (left.fits ≡ true → NotNext op (rest s left.next)) → Gives k s at p d left
-      left_only ends = record {
-        forward = y.forward;
-        inside = y.inside;
-        sound = y.sound;
-        read = λ f z x t.
-            let w = G.leads (rest s at) f z x in
-            let v = y.read w.operand w.next w.stands t in
-            let u = then_ends b op join w.then (subst (NotNext op) v.0 (ends t)) in
-            (v.0 ∙ u.1, subst (λ (g : Formula). Holds (with_formula (held p) g) left) u.0 v.1);
-        large = λ f z x t.
-            let w = G.leads (rest s at) f z x in
-            then_exceeds w.then (y.large w.operand w.next w.stands t);
-      }
+      pub left_large : TooLarge a → TooLarge k
+      left_large y f z x = let w = G.leads (rest s at) f z x in first_exceeds w.then (y w.operand w.next w.stands)
 
-      -- The operator comes.
-      module _ (fit : left.fits ≡ true) (t : Token) (next : NextToken s left.next t) (i : t.class ≡ code_of op) where
-        -- What stands to its right.
-        record Right (f : Formula) (z : List Class) : Type 0 where
-          first : Formula
-          second : Formula
-          is : f ≡ join first second
-          holds : Holds (with_formula (held p) first) left
-          stands : Stands b (rest s t.next) second z
+      module _ (q : Parts) (o : Operand) (y : Gives a s at p d q (Some o)) where
+        -- The left operand is the whole.
+        pub left_only : NotNext op (rest s o.next) → Gives k s at p d q (Some o)
+        left_only ends = (
+          y.0,
+          y.1,
+          λ f z x.
+              let w = G.leads (rest s at) f z x in
+              let v = y.2 w.operand w.next w.stands in
+              let u = then_ends b op join w.then (subst (NotNext op) v.behind_is ends) in
+              record { behind_is = v.behind_is ∙ u.1; holds = subst (λ (g : Formula). Holds (with_formula (held p) g) q o.root) u.0 v.holds },
+        )
 
-        right_of : (f : Formula) (z : List Class) → Stands k (rest s at) f z → Right f z
-        right_of f z x =
-            let w = G.leads (rest s at) f z x in
-            let v = y.read w.operand w.next w.stands fit in
-            let u = then_goes_on b op join w.then (G.stop z x.stops) (sym (ap head_code v.0) ∙ sym next.class_is ∙ i) in
-            record { first = w.operand; second = u.0; is = u.1; holds = v.1; stands = subst (λ (l : List Class). Stands b l u.0 z) (sym (next.left ∙ ap tail v.0)) u.2 }
+        -- The operator comes.
+        module _ (n : ℕ) (comes : Comes s o.next op (Some n)) where
+          -- What stands to its right.
+          record Right (f : Formula) (z : List Class) : Type 0 where
+            first : Formula
+            second : Formula
+            is : f ≡ join first second
+            holds : Holds (with_formula (held p) first) q o.root
+            stands : Stands b (rest s n) second z
 
-        pub asks_right : (e : ℕ) → e ≤ most_names → Asks b s t.next left.parts e
-        asks_right e few =
-            let x = right_of asked.formula asked.behind asked.stands in
-            asks_next k b asked x.first left x.holds y.sound t next x.second asked.behind x.stands e few
+          right_of : (f : Formula) (z : List Class) → Stands k (rest s at) f z → Right f z
+          right_of f z x =
+              let w = G.leads (rest s at) f z x in
+              let v = y.2 w.operand w.next w.stands in
+              let u = then_goes_on b op join w.then (G.stop z x.stops) (rest s n) (sym v.behind_is ∙ comes.0) in
+              record { first = w.operand; second = u.0; is = u.1; holds = v.holds; stands = u.2 }
 
-        pub deep_right : d ≡ most_names → Gives k s at p d (record { fits = false; next = left.next; root = left.root; parts = left.parts })
-        deep_right full = ended_deep k _ refl y.forward y.inside y.sound (λ f z x.
-            let w = right_of f z x in
-            omega (arith, ap height w.is, (G.joins.tall w.first w.second).0))
+          pub asks_right : (e : ℕ) → e ≤ most_names → Asks b s n q e
+          asks_right e few =
+              let x = right_of asked.formula asked.behind asked.stands in
+              asks_next k b asked x.first q o.root x.holds n comes.2 x.second asked.behind x.stands e few
 
-        pub joined : (e : ℕ) → e ≤ d + 1 → left.next < t.next → (right r : Parsed) → Gives b s t.next left.parts e right → Makes (W left.root) right r → Gives k s at p d r
-        joined e few on right r q m = record {
-          forward = omega (arith, y.forward, q.forward, made_next _ right r m);
-          inside = omega (arith, q.inside, made_next _ right r m);
-          sound = made_sound _ right r q.sound m;
-          read = λ f z x u.
+          pub deep_right : d ≡ most_names → TooLarge k
+          deep_right full f z x =
               let w = right_of f z x in
-              let v = q.read w.second z w.stands in (
-                ap (rest s) (made_next _ right r m) ∙ (v (made_fit _ right r m u)).0,
-                subst (λ (g : Formula). Holds (with_formula (held p) g) r) (sym w.is)
-                    (joined_holds G.joins (held p) asked.ordered asked.once d w.first w.second left right r e few w.holds (λ h. (v h).1) (q.large w.second z w.stands) m u),
-              );
-          large = λ f z x u.
+              by_height (omega (arith, ap height w.is, (G.joins.tall w.first w.second).0))
+
+          pub right_large : (e : ℕ) → e ≤ d + 1 → ((f : Formula) (z : List Class) → Stands b (rest s n) f z → Exceeds (held q) e f) → TooLarge k
+          right_large e few large f z x =
               let w = right_of f z x in
-              let v = q.read w.second z w.stands in
               subst (Exceeds (held p) d) (sym w.is)
-              (joined_exceeds G.joins (held p) asked.ordered asked.once d w.first w.second left right r e few w.holds (λ h. (v h).1) (q.large w.second z w.stands) m u);
-        }
+              (then_exceeds G.joins (held p) asked.ordered asked.once d w.first w.second q o.root w.holds e few (large w.second z w.stands))
+
+          module _ (e : ℕ) (u : Parts) (r : Operand) (i : Gives b s n q e u (Some r)) (v : Parts) where
+            right_named : (f : Formula) (z : List Class) → Stands k (rest s at) f z → (m : Option ℕ) → Names (W o.root (held u) r.root) v m → Names (with_formula (held p) f) v m
+            right_named f z x m named =
+                let w = right_of f z x in
+                subst (λ (g : Formula). Names (with_formula (held p) g) v m) (sym w.is)
+                (joined_named G.joins (held p) asked.ordered asked.once d w.first w.second q o.root w.holds u r.root (i.2 w.second z w.stands).holds v m named)
+
+            pub joined_full : Names (W o.root (held u) r.root) v None → TooLarge k
+            joined_full named f z x = by_rows (right_named f z x None named)
+
+            pub joined : (root : ℕ) → Names (W o.root (held u) r.root) v (Some root) → Gives k s at p d v (Some (record { root = root; next = r.next }))
+            joined root named = (
+              omega (arith, y.0, comes.1, i.0),
+              i.1,
+              λ f z x. record { behind_is = (i.2 (right_of f z x).second z (right_of f z x).stands).behind_is; holds = right_named f z x (Some root) named },
+            )

@@ -1,20 +1,20 @@
 -- Two operands and what joins them: the whole is named after both, and is too large where one of them is.
-use mathlib.Core.Bool.{Bool, true, false}
 use mathlib.Core.List.{List}
-use mathlib.Core.Path.{◌≡◌, refl, subst}
+use mathlib.Core.Path.{◌≡◌, subst}
+use Rattle.std.specs.Prelude.{Option}
 use Prim.Native.Nat.{ℕ, ◌+◌, ◌≤◌, ◌<◌}
 use native.Mathlib.Omega.{arith}
 use lib.ListN.{length}
 use Rattle.ipl.specs.Formula.{Formula, iff}
 use Rattle.syntax.specs.Nodes.{Connective, And, Implies, Entry, Named, with_formula, connected, WellOrdered, Once}
 use Rattle.syntax.specs.Parts.{held}
-use Rattle.syntax.specs.Table.{Holds, Names, Makes, with_compound, with_equivalence}
+use Rattle.syntax.specs.Table.{Holds, Names, with_compound, with_equivalence}
 use Rattle.syntax.specs.Descent.{height, Exceeds, by_rows, by_height}
-use Rattle.syntax.specs.declared.table.Parsed.{Parsed}
+use Rattle.syntax.specs.declared.Parts.{Parts}
 use Rattle.syntax.proofs.Growth.{formula_grows, connected_named}
 use Rattle.syntax.proofs.Sharing.{equivalence_named}
 use Rattle.syntax.proofs.Names.{taller}
-use Rattle.syntax.proofs.Held.{made_fit, compound_grows}
+use Rattle.syntax.proofs.Held.{compound_grows}
 
 -- A formula of two, and the step of the table that names it after both.
 pub record Joins (join : Formula → Formula → Formula) (W : ℕ → List Entry → ℕ → Named) : Type 0 where
@@ -50,24 +50,16 @@ module _ {join : Formula → Formula → Formula} {W : ℕ → List Entry → �
   left_exceeds e few (by_rows k) = by_rows (omega (arith, formula_grows (with_formula T g).table h, join_grows))
   left_exceeds e few (by_height k) = by_height (omega (arith, (j.tall g h).0))
 
+  right_exceeds : (e : ℕ) → e ≤ d + 1 → Exceeds (with_formula T g).table e h → Exceeds T d (join g h)
+  right_exceeds e few (by_rows k) = by_rows (omega (arith, join_grows))
+  right_exceeds e few (by_height k) = by_height (omega (arith, (j.tall g h).1))
+
   -- The left one was read, and then the right one, within e connectives.
-  module _ (left right r : Parsed) (e : ℕ) (few : e ≤ d + 1) (x : Holds (with_formula T g) left) (read : right.fits ≡ true → Holds (with_formula (held left.parts) h) right)
-      (large : right.fits ≡ false → Exceeds (held left.parts) e h) (m : Makes (W left.root) right r) where
-    whole_named : right.fits ≡ true → Names (with_formula T (join g h)) right.next r
-    whole_named t =
-        let y : Holds (with_formula (with_formula T g).table h) right = rw x.table at (read t) in
-        rw (j.means T ordered once g h) (rw (y.table, y.root, x.root) at (m.named t))
+  module _ (p : Parts) (a : ℕ) (x : Holds (with_formula T g) p a) where
+    pub then_exceeds : (e : ℕ) → e ≤ d + 1 → Exceeds (held p) e h → Exceeds T d (join g h)
+    then_exceeds e few k = right_exceeds e few (subst (λ (U : List Entry). Exceeds U e h) x.table k)
 
-    pub joined_holds : r.fits ≡ true → Holds (with_formula T (join g h)) r
-    joined_holds t = (whole_named (made_fit _ right r m t)).holds t
-
-    right_exceeds : Exceeds (with_formula T g).table e h → Exceeds T d (join g h)
-    right_exceeds (by_rows k) = by_rows (omega (arith, join_grows))
-    right_exceeds (by_height k) = by_height (omega (arith, (j.tall g h).1))
-
-    pub joined_exceeds : r.fits ≡ false → Exceeds T d (join g h)
-    joined_exceeds f = go right.fits refl
-      where
-        go : (b : Bool) → right.fits ≡ b → Exceeds T d (join g h)
-        go true t = by_rows ((whole_named t).full f)
-        go false t = right_exceeds (subst (λ (U : List Entry). Exceeds U e h) x.table (large t))
+    pub joined_named : (q : Parts) (b : ℕ) → Holds (with_formula (held p) h) q b → (w : Parts) (r : Option ℕ) → Names (W a (held q) b) w r → Names (with_formula T (join g h)) w r
+    joined_named q b y w r n =
+        let z : Holds (with_formula (with_formula T g).table h) q b = rw x.table at y in
+        rw (j.means T ordered once g h) (rw (z.table, z.root_is, x.root_is) at n)

@@ -77,10 +77,10 @@ module _ (l : Levels) where
   unfolding move levels_in
   closed_none e = rw e
 
-  pub closed_level : (l.depth ≡ 0 → ⊥) → (b : Bool) → b ≡ has (num l.outer) (l.depth - 1)
-      → state_of false (record { equated = b; depth = l.depth - 1; outer = l.outer }) ≡ move (state_of false l) closing
+  pub closed_level : (l.depth ≡ 0 → ⊥) → (d : ℕ) → d ≡ l.depth - 1 → (b : Bool) → b ≡ has (num l.outer) d
+      → state_of false (record { equated = b; depth = d; outer = l.outer }) ≡ move (state_of false l) closing
   unfolding move
-  closed_level n b e = rw (e, closes l.depth (num l.outer) n)
+  closed_level n d i b e = rw (e, i, closes l.depth (num l.outer) n)
 
   -- An `=` fits where none has stood.
   pub equated_again : l.equated ≡ true → misfit ≡ move (state_of false l) equals

@@ -15,7 +15,7 @@ use Rattle.syntax.specs.Nodes.{Connective, And, Or, Implies, Entry, letter, fals
 use Rattle.syntax.proofs.Growth.{entry_keeps, formula_keeps}
 
 -- The test is equality.
-same_self : (e : Entry) → same e e ≡ true
+pub same_self : (e : Entry) → same e e ≡ true
 unfolding same
 same_self (letter l) = eq-eqb l l refl
 same_self falsum = refl
@@ -32,7 +32,7 @@ same_number Implies And e = absurd (omega arith)
 same_number Implies Or e = absurd (omega arith)
 same_number Implies Implies e = refl
 
-same_is : (x e : Entry) → same x e ≡ true → x ≡ e
+pub same_is : (x e : Entry) → same x e ≡ true → x ≡ e
 unfolding same
 same_is (letter k) (letter l) t = ap letter (eqb-true k l t)
 same_is (letter k) falsum t = let z : ◌≡◌ {A = ℕ} 0 1 = cc in absurd (omega arith)

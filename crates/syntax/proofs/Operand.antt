@@ -1,162 +1,135 @@
 -- The operands that a reader function reads by themselves: leaves, `~` with its operand, and formulas in parentheses.
-use mathlib.Core.Bool.{Bool, true, false, not}
 use mathlib.Core.List.{List, ◌∷◌}
-use mathlib.Core.Path.{◌≡◌, refl, sym, ◌∙◌, ap, subst}
-use Prim.Native.Nat.{ℕ, ◌+◌, ◌-◌, ◌≤◌, ◌<◌}
+use mathlib.Core.Path.{◌≡◌, sym, ◌∙◌, ap, subst}
+use Prim.Native.Nat.{ℕ, ◌+◌, ◌≤◌, ◌<◌}
 use native.Mathlib.Omega.{arith}
-use borrow.Author.Tests.{eq-eqb, ne_eqb}
-use lib.Dec.{eqb}
 use lib.ListN.{length}
+use Rattle.std.specs.Prelude.{Option, Some, None}
 use Rattle.ipl.specs.Formula.{Formula}
-use Rattle.syntax.specs.Class.{Class, closing, tilde, opening, nought, lowercase}
-use Rattle.syntax.specs.Code.{code_of}
+use Rattle.syntax.specs.Class.{Class, foreign, closing, tilde, opening, nought, lowercase}
+use Rattle.syntax.specs.Code.{decode}
 use Rattle.syntax.specs.Grammar.{negation, equivalence}
 use Rattle.syntax.specs.Nodes.{Implies, Entry, Named, with_entry, with_formula, connected}
 use Rattle.syntax.specs.Refusal.{most_names}
-use Rattle.syntax.specs.Parts.{entry_of, held, room, Sound}
-use Rattle.syntax.specs.Table.{Holds, Names, Makes, with_part, with_negation}
-use Rattle.syntax.specs.Descent.{rest, leaf_of, PastSpaces, NextToken, Stands, height, Exceeds, by_rows, Asks, Gives, LeafRead}
-use Rattle.syntax.specs.declared.Part.{Part}
-use Rattle.syntax.specs.declared.Part.TheVariants.{Letter, Falsum}
+use Rattle.syntax.specs.Parts.{held, room}
+use Rattle.syntax.specs.Table.{Holds, Names, with_negation}
+use Rattle.syntax.specs.Descent.{rest, PastSpaces, NextToken, Stands, height, Exceeds, by_rows, by_height, Asks, Gives, LeafRead}
 use Rattle.syntax.specs.declared.Parts.{Parts}
 use Rattle.syntax.specs.declared.bytes.Token.{Token}
-use Rattle.syntax.specs.declared.table.Parsed.{Parsed}
+use Rattle.syntax.specs.declared.descent.Operand.{Operand}
 use Rattle.syntax.proofs.Position.{token_is}
 use Rattle.syntax.proofs.Names.{taller}
-use Rattle.syntax.proofs.Held.{made_sound, made_next, made_fit}
 use Rattle.syntax.proofs.Derivations.{Single, letter, falsum, tilded, enclosed, single}
 use Rattle.syntax.proofs.Joined.{connected_joins, left_exceeds}
-use Rattle.syntax.proofs.Grouped.{ended_deep}
-
--- The leaf of a class.
-letter_leaf : (n k : ℕ) → n ≡ 10 + k → leaf_of n ≡ Entry.letter k
-letter_leaf n k e = rw (ne_eqb n 9 (λ i. omega arith)) (ap Entry.letter (omega arith))
-
-falsum_leaf : (n : ℕ) → n ≡ 9 → leaf_of n ≡ Entry.falsum
-falsum_leaf n e = rw (eq-eqb n 9 e)
-
--- A leaf by its part, from a table that has room unless the class is that of `~`.
-module _ (p : Parts) (sound : Sound p) (class next : ℕ) (e : Part) (r : Parsed) (m : Makes (with_part e) (record { fits = not (eqb class 7); next = next; root = 0; parts = p }) r) where
-  leaf_made : (9 ≤ class → entry_of e ≡ leaf_of class) → LeafRead p class next r
-  leaf_made is = record {
-    sound = made_sound _ _ r sound m;
-    next_is = made_next _ _ r m;
-    named = λ h. subst (λ (x : Entry). Names (with_entry (held p) x) next r) (is h) (m.named (rw (ne_eqb class 7 (λ i. omega arith))));
-    no_room = λ i. let none : not (eqb class 7) ≡ false = rw (eq-eqb class 7 i) in ap (λ (x : Parsed). x.fits) (m.stays none) ∙ none;
-  }
-
-  pub letter_made : 10 ≤ class → e ≡ Letter (class - 10) → LeafRead p class next r
-  letter_made h k = leaf_made (λ l. ap entry_of k ∙ sym (letter_leaf class (class - 10) (omega arith)))
-
-  pub falsum_made : class ≤ 9 → e ≡ Falsum → LeafRead p class next r
-  falsum_made h k = leaf_made (λ l. ap entry_of k ∙ sym (falsum_leaf class (omega arith)))
 
 module _ (s : List ℕ) (at : ℕ) (p : Parts) (d : ℕ) where
+  -- The parts of every operand that stands there are too many.
+  abbrev TooLarge : Type 0
+  TooLarge = (f : Formula) (z : List Class) → Stands negation (rest s at) f z → Exceeds (held p) d f
+
   module _ (t : Token) (next : NextToken s at t) where
-    -- A leaf.
-    module _ (asked : Asks negation s at p d) (no-not : t.class ≡ 7 → ⊥) (no-paren : t.class ≡ 8 → ⊥) where
-      leaf_class : 9 ≤ t.class
-      unfolding code_of
-      leaf_class = go (single (rest s at) asked.formula asked.behind asked.stands)
-        where
-          go : Single (rest s at) asked.formula asked.behind → 9 ≤ t.class
-          go (letter k e l) = omega (arith, (token_is s at t next (lowercase k) _ l).0)
-          go (falsum e l) = omega (arith, (token_is s at t next nought _ l).0)
-          go (tilded g m e l x) = absurd (no-not (token_is s at t next tilde _ l).0)
-          go (enclosed m l x) = absurd (no-paren (token_is s at t next opening _ l).0)
+    -- A leaf, by its entry.
+    module _ (e : Entry) (leaf : (f : Formula) (z : List Class) → Single (rest s at) f z → (with_formula (held p) f ≡ with_entry (held p) e) × (rest s t.next ≡ z)) where
+      pub leaf_gives : (decode t.class ≡ foreign → ⊥) → (q : Parts) (r : Option Operand) → LeafRead s t.next p e q r → Gives negation s at p d q r
+      leaf_gives some q None full = λ f z i. by_rows (subst (λ (m : Named). room < length m.table) (sym (leaf f z (single (rest s at) f z i)).0) full)
+      leaf_gives some q (Some o) x = (
+        omega (arith, next.forward some, x.0.forward),
+        x.0.inside,
+        λ f z i.
+            let w = leaf f z (single (rest s at) f z i) in
+            record { behind_is = x.0.same ∙ w.1; holds = subst (λ (m : Named). Holds m q o.root) (sym w.0) x.1 },
+      )
 
-      leaf_is : (f : Formula) (z : List Class) → Single (rest s at) f z → (with_formula (held p) f ≡ with_entry (held p) (leaf_of t.class)) × (rest s t.next ≡ z)
-      unfolding code_of with_formula
-      leaf_is f z (letter k e l) =
-          let w = token_is s at t next (lowercase k) _ l in
-          (ap (with_formula (held p)) e ∙ ap (with_entry (held p)) (sym (letter_leaf t.class k w.0)), w.1)
-      leaf_is f z (falsum e l) =
-          let w = token_is s at t next nought _ l in
-          (ap (with_formula (held p)) e ∙ ap (with_entry (held p)) (sym (falsum_leaf t.class w.0)), w.1)
-      leaf_is f z (tilded g m e l x) = absurd (no-not (token_is s at t next tilde _ l).0)
-      leaf_is f z (enclosed m l x) = absurd (no-paren (token_is s at t next opening _ l).0)
+    pub letter_leaf : (k : ℕ) → decode t.class ≡ lowercase k → (f : Formula) (z : List Class) → Single (rest s at) f z
+        → (with_formula (held p) f ≡ with_entry (held p) (Entry.letter k)) × (rest s t.next ≡ z)
+    unfolding with_formula
+    letter_leaf k c f z (letter j e l) =
+        let w = token_is s at t next (lowercase j) _ l in
+        let same : j ≡ k = cc in
+        (ap (with_formula (held p)) e ∙ ap (λ (k : ℕ). with_entry (held p) (Entry.letter k)) same, w.1)
+    letter_leaf k c f z (falsum e l) = let w = token_is s at t next nought _ l in cc
+    letter_leaf k c f z (tilded g m e l x) = let w = token_is s at t next tilde _ l in cc
+    letter_leaf k c f z (enclosed m l x) = let w = token_is s at t next opening _ l in cc
 
-      pub leaf_gives : (n : ℕ) → PastSpaces s t.next n → (r : Parsed) → LeafRead p t.class n r → Gives negation s at p d r
-      leaf_gives n past r x =
-          let class = leaf_class in
-          let y = x.named class in
-          record {
-            forward = omega (arith, next.forward (omega arith), past.forward, y.next_is);
-            inside = omega (arith, past.inside, y.next_is);
-            sound = y.sound;
-            read = λ f z i u. let w = leaf_is f z (single (rest s at) f z i) in (ap (rest s) y.next_is ∙ past.same ∙ w.1, subst (λ (m : Named). Holds m r) (sym w.0) (y.holds u));
-            large = λ f z i u. let w = leaf_is f z (single (rest s at) f z i) in by_rows (subst (λ (m : Named). room < length m.table) (sym w.0) (y.full u));
-          }
+    pub falsum_leaf : ((k : ℕ) → decode t.class ≡ lowercase k → ⊥) → (decode t.class ≡ tilde → ⊥) → (decode t.class ≡ opening → ⊥) → (f : Formula) (z : List Class)
+        → Single (rest s at) f z → (with_formula (held p) f ≡ with_entry (held p) Entry.falsum) × (rest s t.next ≡ z)
+    unfolding with_formula
+    falsum_leaf no-letter no-not no-paren f z (letter j e l) = absurd (no-letter j (token_is s at t next (lowercase j) _ l).0)
+    falsum_leaf no-letter no-not no-paren f z (falsum e l) = (ap (with_formula (held p)) e, (token_is s at t next nought _ l).1)
+    falsum_leaf no-letter no-not no-paren f z (tilded g m e l x) = absurd (no-not (token_is s at t next tilde _ l).0)
+    falsum_leaf no-letter no-not no-paren f z (enclosed m l x) = absurd (no-paren (token_is s at t next opening _ l).0)
+
+    -- An operand begins with a token.
+    pub begun : Asks negation s at p d → decode t.class ≡ foreign → ⊥
+    begun asked e = go (single (rest s at) asked.formula asked.behind asked.stands)
+      where
+        go : Single (rest s at) asked.formula asked.behind → ⊥
+        go (letter j q l) = let w = token_is s at t next (lowercase j) _ l in cc
+        go (falsum q l) = let w = token_is s at t next nought _ l in cc
+        go (tilded g m q l x) = let w = token_is s at t next tilde _ l in cc
+        go (enclosed m l x) = let w = token_is s at t next opening _ l in cc
 
     -- `~` and an operand.
-    module _ (asked : Asks negation s at p d) (i : t.class ≡ 7) where
+    module _ (asked : Asks negation s at p d) (i : decode t.class ≡ tilde) where
       record Negated (f : Formula) (z : List Class) : Type 0 where
         operand : Formula
         is : f ≡ connected Implies operand Formula.falsum
         stands : Stands negation (rest s t.next) operand z
 
       negated : (f : Formula) (z : List Class) → Stands negation (rest s at) f z → Negated f z
-      unfolding code_of
       negated f z x = go (single (rest s at) f z x)
         where
           go : Single (rest s at) f z → Negated f z
-          go (letter k e l) = absurd (omega (arith, (token_is s at t next (lowercase k) _ l).0))
-          go (falsum e l) = absurd (omega (arith, (token_is s at t next nought _ l).0))
+          go (letter k e l) = let w = token_is s at t next (lowercase k) _ l in cc
+          go (falsum e l) = let w = token_is s at t next nought _ l in cc
           go (tilded g m e l y) = record { operand = g; is = e; stands = rw (token_is s at t next tilde _ l).1 y }
-          go (enclosed m l y) = absurd (omega (arith, (token_is s at t next opening _ l).0))
+          go (enclosed m l y) = let w = token_is s at t next opening _ l in cc
 
       pub asks_not : d + 1 ≤ most_names → Asks negation s t.next p (d + 1)
       asks_not few =
           let x = negated asked.formula asked.behind asked.stands in
-          record {
-            formula = x.operand;
-            behind = asked.behind;
-            stands = x.stands;
-            inside = next.inside;
-            sound = asked.sound;
-            ordered = asked.ordered;
-            once = asked.once;
-            near = few;
-          }
+          record { formula = x.operand; behind = asked.behind; stands = x.stands; inside = next.inside; ordered = asked.ordered; once = asked.once; near = few }
 
-      pub deep_not : d ≡ most_names → (r : Parsed) → LeafRead p t.class t.next r → Gives negation s at p d r
-      deep_not full r e =
-          ended_deep s at p d negation r (e.no_room i) (omega (arith, next.forward (omega arith), e.next_is)) (omega (arith, next.inside, e.next_is)) e.sound (λ f z x.
+      pub deep_not : d ≡ most_names → TooLarge
+      deep_not full f z x =
           let w = negated f z x in
-          omega (arith, ap height w.is, (taller Implies w.operand Formula.falsum).0))
+          by_height (omega (arith, ap height w.is, (taller Implies w.operand Formula.falsum).0))
 
-      pub not_gives : (q r : Parsed) → Gives negation s t.next p (d + 1) q → Makes with_negation q r → Gives negation s at p d r
-      not_gives q r y m = record {
-        forward = omega (arith, next.forward (omega arith), y.forward, made_next _ q r m);
-        inside = omega (arith, y.inside, made_next _ q r m);
-        sound = made_sound _ q r y.sound m;
-        read = λ f z x u.
+      pub not_large : ((f : Formula) (z : List Class) → Stands negation (rest s t.next) f z → Exceeds (held p) (d + 1) f) → TooLarge
+      not_large large f z x =
+          let w = negated f z x in
+          subst (Exceeds (held p) d) (sym w.is)
+          (left_exceeds (connected_joins Implies) (held p) asked.ordered asked.once d w.operand Formula.falsum (d + 1) (omega arith) (large w.operand z w.stands))
+
+      module _ (q : Parts) (o : Operand) (y : Gives negation s t.next p (d + 1) q (Some o)) (v : Parts) where
+        not_named : (f : Formula) (z : List Class) → Stands negation (rest s at) f z → (m : Option ℕ) → Names (with_negation (held q) o.root) v m → Names (with_formula (held p) f) v m
+        unfolding with_formula with_negation connected
+        not_named f z x m named =
             let w = negated f z x in
-            let had = made_fit _ q r m u in
-            let v = y.read w.operand z w.stands had in
-            (ap (rest s) (made_next _ q r m) ∙ v.0, subst (λ (g : Formula). Holds (with_formula (held p) g) r) (sym w.is) ((named w.operand v.1 had).holds u));
-        large = λ f z x u. let w = negated f z x in subst (Exceeds (held p) d) (sym w.is) (exceeds w.operand z w.stands u q.fits refl);
-      }
-        where
-          named : (g : Formula) → Holds (with_formula (held p) g) q → q.fits ≡ true → Names (with_formula (held p) (connected Implies g Formula.falsum)) q.next r
-          named g x had = unfold with_formula with_negation connected in rw (x.table, x.root) at (m.named had)
+            let h = (y.2 w.operand z w.stands).holds in
+            subst (λ (g : Formula). Names (with_formula (held p) g) v m) (sym w.is) (rw (h.table, h.root_is) at named)
 
-          exceeds : (g : Formula) (z : List Class) → Stands negation (rest s t.next) g z → r.fits ≡ false → (b : Bool) → q.fits ≡ b
-              → Exceeds (held p) d (connected Implies g Formula.falsum)
-          exceeds g z x u true had = by_rows ((named g (y.read g z x had).1 had).full u)
-          exceeds g z x u false had =
-              left_exceeds (connected_joins Implies) (held p) asked.ordered asked.once d g Formula.falsum (d + 1) (omega arith) (y.large g z x had)
+        pub not_full : Names (with_negation (held q) o.root) v None → TooLarge
+        not_full named f z x = by_rows (not_named f z x None named)
+
+        pub not_gives : (root : ℕ) → Names (with_negation (held q) o.root) v (Some root) → Gives negation s at p d v (Some (record { root = root; next = o.next }))
+        not_gives root named = (
+          omega (arith, next.onward, y.0),
+          y.1,
+          λ f z x.
+              let w = negated f z x in
+              record { behind_is = (y.2 w.operand z w.stands).behind_is; holds = not_named f z x (Some root) named },
+        )
 
     -- A formula in parentheses.
-    module _ (i : t.class ≡ 8) where
+    module _ (i : decode t.class ≡ opening) where
       inner : (f : Formula) (z : List Class) → Stands negation (rest s at) f z → Stands equivalence (rest s t.next) f (closing ∷ z)
-      unfolding code_of
       inner f z x = go (single (rest s at) f z x)
         where
           go : Single (rest s at) f z → Stands equivalence (rest s t.next) f (closing ∷ z)
-          go (letter k e l) = absurd (omega (arith, (token_is s at t next (lowercase k) _ l).0))
-          go (falsum e l) = absurd (omega (arith, (token_is s at t next nought _ l).0))
-          go (tilded g m e l y) = absurd (omega (arith, (token_is s at t next tilde _ l).0))
+          go (letter k e l) = let w = token_is s at t next (lowercase k) _ l in cc
+          go (falsum e l) = let w = token_is s at t next nought _ l in cc
+          go (tilded g m e l y) = let w = token_is s at t next tilde _ l in cc
           go (enclosed m l y) = rw (token_is s at t next opening _ l).1 y
 
       pub asks_inner : Asks negation s at p d → Asks equivalence s t.next p d
@@ -165,20 +138,20 @@ module _ (s : List ℕ) (at : ℕ) (p : Parts) (d : ℕ) where
         behind = closing ∷ asked.behind;
         stands = inner asked.formula asked.behind asked.stands;
         inside = next.inside;
-        sound = asked.sound;
         ordered = asked.ordered;
         once = asked.once;
         near = asked.near;
       }
 
-      pub inner_gives : (q : Parsed) → Gives equivalence s t.next p d q → (c : Token) → NextToken s q.next c → (n : ℕ) → PastSpaces s c.next n
-          → Gives negation s at p d (record { fits = q.fits; next = n; root = q.root; parts = q.parts })
-      inner_gives q y c close n past = record {
-        forward = omega (arith, next.forward (omega arith), y.forward, close.onward, past.forward);
-        inside = past.inside;
-        sound = y.sound;
-        read = λ f z x u.
-            let v = y.read f (closing ∷ z) (inner f z x) u in
-            (past.same ∙ (token_is s q.next c close closing z v.0).1, record { table = v.1.table; root = v.1.root });
-        large = λ f z x u. y.large f (closing ∷ z) (inner f z x) u;
-      }
+      pub inner_large : ((f : Formula) (z : List Class) → Stands equivalence (rest s t.next) f z → Exceeds (held p) d f) → TooLarge
+      inner_large large f z x = large f (closing ∷ z) (inner f z x)
+
+      pub inner_gives : (q : Parts) (o : Operand) → Gives equivalence s t.next p d q (Some o) → (c : Token) → NextToken s o.next c → (n : ℕ) → PastSpaces s c.next n
+          → Gives negation s at p d q (Some (record { root = o.root; next = n }))
+      inner_gives q o y c close n past = (
+        omega (arith, next.onward, y.0, close.onward, past.forward),
+        past.inside,
+        λ f z x.
+            let v = y.2 f (closing ∷ z) (inner f z x) in
+            record { behind_is = past.same ∙ (token_is s o.next c close closing z v.behind_is).1; holds = v.holds },
+      )

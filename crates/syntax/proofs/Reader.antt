@@ -1,19 +1,23 @@
 -- What the reader's contract `Answers` fixes: for every text, the one answer that document 01 gives it.
+use mathlib.Core.Bool.{cond}
 use mathlib.Core.List.{List}
 use mathlib.Core.Logic.{◌↔◌}
-use mathlib.Core.Path.{◌≡◌, refl, sym, ◌∙◌, ap, subst}
+use mathlib.Core.Path.{◌≡◌, refl, sym, ◌∙◌, ap, ap₂, subst}
 use Prim.Native.Nat.{ℕ, ◌≤◌}
 use native.Mathlib.Omega.{arith}
+use lib.Dec.{eqb}
+use Rattle.std.specs.Option.{unwrap_or}
+use Rattle.std.specs.Prelude.{Result, Ok, Err}
 use Rattle.ipl.specs.Formula as ipl
+use Rattle.refusal.specs.Numbers.{number_of, place_of}
+use Rattle.refusal.specs.declared.Refusal.{Refusal}
+use Rattle.refusal.specs.declared.Refusal.TheVariants as refusal
 use Rattle.syntax.specs.Grammar.{Reads}
 use Rattle.syntax.specs.Nodes.{Named, nodes}
 use Rattle.syntax.specs.Letters.{letter_count}
 use Rattle.syntax.specs.Refusal.{TooLarge, Longest, Line, by_length, by_depth, by_grammar, by_size, Refused, line_1, line_2, line_3, line_4, Accepted}
 use Rattle.syntax.specs.Parts.{held}
-use Rattle.syntax.specs.Answer.{Read, AnswersWith, Answers}
-use Rattle.syntax.specs.declared.Outcome.{Outcome}
-use Rattle.syntax.specs.declared.Outcome.TheVariants.{Refusal, Formula}
-use Rattle.syntax.specs.declared.Parts.{Parts}
+use Rattle.syntax.specs.Answer.{Answers}
 use Rattle.syntax.specs.declared.Reading.{Reading}
 use Rattle.syntax.proofs.Unique.{unique}
 
@@ -63,63 +67,91 @@ module _ (s : List ℕ) where
   place_same (line_3 {place = j} l d g p) (line_3 {place = k} x y z q) = longest_same j k p q
   place_same (line_4 l d r h) (line_4 x y z q) = refl
 
-  outcomes : (o : Outcome) (p : Parts) (o' : Outcome) (p' : Parts) → AnswersWith s o p → AnswersWith s o' p' → (o ≡ o') × (held p ≡ held p')
-  outcomes (Refusal n j) p (Refusal m k) p' (a, e) (b, f) = (refusals (same_number a b) a b, e.none ∙ sym f.none)
+  same_number : {n m j k : ℕ} → Refused s n j → Refused s m k → n ≡ m
+  same_number a b = omega (arith, none_before a (only_then b), none_before b (only_then a))
+
+  few : {n place : ℕ} → Refused s n place → n ≤ 4
+  few (line_1 l) = omega arith
+  few (line_2 l d) = omega arith
+  few (line_3 l d g p) = omega arith
+  few (line_4 l d r h) = omega arith
+
+  -- A text's refusal, from its number and place.
+  refusal_of : ℕ → ℕ → Refusal
+  refusal_of n place = cond (eqb n 1) refusal.Length (cond (eqb n 2) refusal.Depth (cond (eqb n 3) (refusal.Form place) refusal.Names))
+
+  abbrev Told : Refusal → Type 0
+  Told e = Refused s (number_of e) (unwrap_or (place_of e) 0)
+
+  pub told_is : (e d : Refusal) → Told e → Told d → e ≡ d
+  unfolding refusal_of
+  told_is e d a b =
+      let n = same_number a b in
+      let k : unwrap_or (place_of e) 0 ≡ unwrap_or (place_of d) 0 = place_same (subst (λ (n : ℕ). Refused s n (unwrap_or (place_of e) 0)) n a) b in
+      of_told e a ∙ ap₂ refusal_of n k ∙ sym (of_told d b)
     where
-      same_number : Refused s n j → Refused s m k → n ≡ m
-      same_number x y = omega (arith, none_before x (only_then y), none_before y (only_then x))
+      of_told : (e : Refusal) → Told e → e ≡ refusal_of (number_of e) (unwrap_or (place_of e) 0)
+      of_told refusal.Length a = refl
+      of_told refusal.Depth a = refl
+      of_told (refusal.Form place) a = refl
+      of_told refusal.Names a = refl
+      of_told refusal.Range a = absurd (omega (arith, few a))
+      of_told refusal.Atom a = absurd (omega (arith, few a))
+      of_told refusal.FlatsFull a = absurd (omega (arith, few a))
+      of_told refusal.ImplicationsFull a = absurd (omega (arith, few a))
+      of_told refusal.NoVerdict a = absurd (omega (arith, few a))
+      of_told refusal.NoRoom a = absurd (omega (arith, few a))
+      of_told refusal.WorldsFull a = absurd (omega (arith, few a))
+      of_told refusal.StepsFull a = absurd (omega (arith, few a))
+      of_told refusal.NoMark a = absurd (omega (arith, few a))
+      of_told refusal.MarkLost a = absurd (omega (arith, few a))
+      of_told refusal.PageFull a = absurd (omega (arith, few a))
+      of_told refusal.NoAuthor a = absurd (omega (arith, few a))
+      of_told refusal.NoMean a = absurd (omega (arith, few a))
+      of_told refusal.Letters a = absurd (omega (arith, few a))
 
-      refusals : n ≡ m → Refused s n j → Refused s m k → Refusal n j ≡ Refusal m k
-      refusals q x y =
-          let z : Refused s m j = subst (λ (i : ℕ). Refused s i j) q x in
-          let w = place_same z y in
-          rw (q, w)
-  outcomes (Refusal n j) p (Formula i) p' (a, e) b = absurd (no_line b.formula b.accepted (only_then a))
-  outcomes (Formula i) p (Refusal n j) p' a (b, e) = absurd (no_line a.formula a.accepted (only_then b))
-  outcomes (Formula i) p (Formula j) p' a b =
-      let e : nodes a.formula ≡ nodes b.formula = ap nodes (unique s a.formula b.formula a.accepted.reads b.accepted.reads) in
-      (ap Formula (a.root_is ∙ ap (λ (n : Named). n.root) e ∙ sym b.root_is), a.table_is ∙ ap (λ (n : Named). n.table) e ∙ sym b.table_is)
+  -- The contract leaves one answer: the refusal, or the root, the rows held and the letters.
+  abbrev pub SameAnswer : Result Reading Refusal → Result Reading Refusal → Type 0
+  SameAnswer (Err e) (Err d) = e ≡ d
+  SameAnswer (Ok a) (Ok b) = (a.root ≡ b.root) × (held a.parts ≡ held b.parts) × (a.letters ≡ b.letters)
+  SameAnswer (Err e) (Ok b) = ⊥
+  SameAnswer (Ok a) (Err d) = ⊥
 
-  -- The contract leaves one answer: outcome, rows held, and letters.
-  pub one_answer : (a b : Reading) → Answers s a → Answers s b → (a.outcome ≡ b.outcome) × (held a.parts ≡ held b.parts) × (a.letters ≡ b.letters)
-  one_answer a b x y =
-      let same = outcomes a.outcome a.parts b.outcome b.parts x.answer y.answer in
-      (same.0, same.1, x.counted ∙ ap letter_count same.1 ∙ sym y.counted)
+  pub one_answer : (a b : Result Reading Refusal) → Answers s a → Answers s b → SameAnswer a b
+  one_answer (Err e) (Err d) x y = told_is e d x y
+  one_answer (Err e) (Ok b) x y = no_line y.0.formula y.0.accepted (only_then x)
+  one_answer (Ok a) (Err d) x y = no_line x.0.formula x.0.accepted (only_then y)
+  one_answer (Ok a) (Ok b) x y =
+      let e : nodes x.0.formula ≡ nodes y.0.formula = ap nodes (unique s x.0.formula y.0.formula x.0.accepted.reads y.0.accepted.reads) in
+      let rows : held a.parts ≡ held b.parts = x.0.table_is ∙ ap (λ (n : Named). n.table) e ∙ sym y.0.table_is in
+      (x.0.root_is ∙ ap (λ (n : Named). n.root) e ∙ sym y.0.root_is, rows, x.1 ∙ ap letter_count rows ∙ sym y.1)
 
   -- "Each number comes when its line holds and no earlier one does, and only then."
-  first_line : (o : Outcome) (p : Parts) → AnswersWith s o p → (n : ℕ) → Line s n → ((m : ℕ) → Line s m → n ≤ m) → (place : ℕ) × (o ≡ Refusal n place)
-  first_line (Refusal m k) p (a, e) n l f = let q : m ≡ n = omega (arith, none_before a l, f m (only_then a)) in (k, rw q)
-  first_line (Formula i) p a n l f = absurd (no_line a.formula a.accepted l)
-
-  refusal_line : (o : Outcome) (p : Parts) → AnswersWith s o p → (n place : ℕ) → o ≡ Refusal n place → Line s n × ((m : ℕ) → Line s m → n ≤ m)
-  refusal_line o p a n place e = let x = subst (λ (q : Outcome). AnswersWith s q p) e a in (only_then x.0, λ m l. none_before x.0 l)
-
-  pub refused_exactly : (r : Reading) → Answers s r → (n : ℕ) → ((place : ℕ) × (r.outcome ≡ Refusal n place)) ↔ (Line s n × ((m : ℕ) → Line s m → n ≤ m))
-  refused_exactly r a n = (λ x. refusal_line r.outcome r.parts a.answer n x.0 x.1, λ x. first_line r.outcome r.parts a.answer n x.0 x.1)
+  pub refused_exactly : (r : Result Reading Refusal) → Answers s r → (n : ℕ)
+      → ((e : Refusal) × (r ≡ Err e) × (number_of e ≡ n)) ↔ (Line s n × ((m : ℕ) → Line s m → n ≤ m))
+  refused_exactly (Err d) a n = (
+    λ (e, i, k).
+        let same : d ≡ e = cc in
+        let number : number_of d ≡ n = ap number_of same ∙ k in
+        (subst (Line s) number (only_then a), λ m l. omega (arith, none_before a l)),
+    λ (l, f). (d, refl, omega (arith, none_before a l, f (number_of d) (only_then a))),
+  )
+  refused_exactly (Ok q) a n = (λ (e, i, k). cc, λ (l, f). absurd (no_line a.0.formula a.0.accepted l))
 
   -- "3: .. with the length of the longest beginning that begins some formula"
-  pub place_longest : (r : Reading) → Answers s r → (place : ℕ) → r.outcome ≡ Refusal 3 place → Longest s place
-  place_longest r a place e = go (subst (λ (q : Outcome). AnswersWith s q r.parts) e a.answer).0
+  pub place_longest : (r : Result Reading Refusal) → Answers s r → (place : ℕ) → r ≡ Err (refusal.Form place) → Longest s place
+  place_longest r a place e = go (subst (Answers s) e a)
     where
       go : Refused s 3 place → Longest s place
       go (line_3 l d g p) = p
 
   -- The reader accepts exactly the formulas within its limits, and gives their reading.
-  accepts : (o : Outcome) (p : Parts) → AnswersWith s o p → (t : ipl.Formula) → Accepted s t → (o ≡ Formula (nodes t).root) × (held p ≡ (nodes t).table)
-  accepts (Refusal n k) p (a, e) t x = absurd (no_line t x (only_then a))
-  accepts (Formula i) p a t x =
-      let e : nodes a.formula ≡ nodes t = ap nodes (unique s a.formula t a.accepted.reads x.reads) in
-      (ap Formula (a.root_is ∙ ap (λ (n : Named). n.root) e), a.table_is ∙ ap (λ (n : Named). n.table) e)
+  pub accepted_read : (r : Result Reading Refusal) → Answers s r → (t : ipl.Formula) → Accepted s t
+      → (q : Reading) × (r ≡ Ok q) × (q.root ≡ (nodes t).root) × (held q.parts ≡ (nodes t).table)
+  accepted_read (Err e) a t x = absurd (no_line t x (only_then a))
+  accepted_read (Ok q) a t x =
+      let e : nodes a.0.formula ≡ nodes t = ap nodes (unique s a.0.formula t a.0.accepted.reads x.reads) in
+      (q, refl, a.0.root_is ∙ ap (λ (n : Named). n.root) e, a.0.table_is ∙ ap (λ (n : Named). n.table) e)
 
-  pub accepted_read : (r : Reading) → Answers s r → (t : ipl.Formula) → Accepted s t → (r.outcome ≡ Formula (nodes t).root) × (held r.parts ≡ (nodes t).table)
-  accepted_read r a t x = accepts r.outcome r.parts a.answer t x
-
-  pub read_accepted : (r : Reading) → Answers s r → (i : ℕ) → r.outcome ≡ Formula i → (t : ipl.Formula) × Accepted s t
-  read_accepted r a i e = let x = subst (λ (q : Outcome). AnswersWith s q r.parts) e a.answer in (x.formula, x.accepted)
-
--- By the outcome.
-pub read_as : (s : List ℕ) (o : Outcome) (p : Parts) → AnswersWith s o p → (root : ℕ) → o ≡ Formula root → Read s root p
-read_as s o p h root e = subst (λ (o : Outcome). AnswersWith s o p) e h
-
-pub refused_as : (s : List ℕ) (o : Outcome) (p : Parts) → AnswersWith s o p → (number place : ℕ) → o ≡ Refusal number place → Refused s number place
-refused_as s o p h number place e = (subst (λ (o : Outcome). AnswersWith s o p) e h).0
+  pub read_accepted : (r : Result Reading Refusal) → Answers s r → (q : Reading) → r ≡ Ok q → (t : ipl.Formula) × Accepted s t
+  read_accepted r a q e = let x = subst (Answers s) e a in (x.0.formula, x.0.accepted)

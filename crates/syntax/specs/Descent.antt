@@ -1,39 +1,28 @@
 -- What the functions of the descent ask and give. A position stands for the tokens from it on.
-use Rattle.std.specs.Prelude.{true, false, cond, List, [], ◌∷◌, ◌++◌, ◌≡◌, ℕ, suc, max, ◌+◌, ◌-◌, ◌≤◌, ◌<◌, eqb, length, get_or, drop}
-use Rattle.syntax.specs.Class.{Class, ampersand, bar, greater, equals, tokens}
-use Rattle.syntax.specs.Code.{code_of}
+use Rattle.std.specs.Prelude.{List, [], ◌∷◌, ◌++◌, ◌≡◌, ℕ, suc, max, ◌+◌, ◌≤◌, ◌<◌, length, get_or, drop, Option, Some, None}
+use Rattle.syntax.specs.Class.{Class, foreign, ampersand, bar, greater, equals, tokens}
+use Rattle.syntax.specs.Code.{decode}
 use Rattle.ipl.specs.Formula.{Formula}
 use Rattle.syntax.specs.Grammar.{Level, negation, conjunction, disjunction, implication, equivalence, Parses}
-use Rattle.syntax.specs.Nodes.{Entry, letter, falsum, with_entry, with_formula, WellOrdered, Once}
+use Rattle.syntax.specs.Nodes.{Entry, with_entry, with_formula, WellOrdered, Once}
 use Rattle.syntax.specs.Refusal.{most_names}
-use Rattle.syntax.specs.Parts.{held, room, Sound}
-use Rattle.syntax.specs.Table.{Holds, Names}
+use Rattle.syntax.specs.Parts.{held, room}
+use Rattle.syntax.specs.Table.{Holds}
 use Rattle.syntax.specs.declared.Parts.{Parts}
 use Rattle.syntax.specs.declared.bytes.Token.{Token}
-use Rattle.syntax.specs.declared.table.Parsed.{Parsed}
+use Rattle.syntax.specs.declared.descent.Operand.{Operand}
 
 abbrev pub rest : List ℕ → ℕ → List Class
 rest s at = tokens (drop at s)
 
--- The number of the first class, 0 where there is none; what comes after it.
-abbrev pub head_code : List Class → ℕ
-head_code [] = 0
-head_code (c ∷ l) = code_of c
+-- The first class, the foreign one where there is none; what comes after it.
+abbrev pub head : List Class → Class
+head [] = foreign
+head (c ∷ l) = c
 
 abbrev pub tail : List Class → List Class
 tail [] = []
 tail (c ∷ l) = l
-
--- The leaf that a token of this class is: ⊥, or a letter.
-abbrev pub leaf_of : ℕ → Entry
-leaf_of class = cond (eqb class 9) falsum (letter (class - 10))
-
--- A leaf was named, up to a position; a `~` has no room.
-pub record LeafRead (p : Parts) (class next : ℕ) (r : Parsed) : Type 0 where
-  pub sound : Sound r.parts
-  pub next_is : r.next ≡ next
-  pub named : 9 ≤ class → Names (with_entry (held p) (leaf_of class)) next r
-  pub no_room : class ≡ 7 → r.fits ≡ false
 
 -- A position past the spaces from another on.
 pub record PastSpaces (s : List ℕ) (at r : ℕ) : Type 0 where
@@ -44,14 +33,20 @@ pub record PastSpaces (s : List ℕ) (at r : ℕ) : Type 0 where
 
 -- The first token from a position on, and the position after it.
 pub record NextToken (s : List ℕ) (at : ℕ) (t : Token) : Type 0 where
-  pub class_is : t.class ≡ head_code (rest s at)
+  pub class_is : decode t.class ≡ head (rest s at)
   pub left : rest s t.next ≡ tail (rest s at)
   pub onward : at ≤ t.next
-  pub forward : 0 < t.class → at < t.next
+  pub forward : (decode t.class ≡ foreign → ⊥) → at < t.next
   pub inside : t.next ≤ length s
 
+-- The class does not come next.
 abbrev pub NotNext : Class → List Class → Type 0
-NotNext c l = head_code l ≡ code_of c → ⊥
+NotNext c l = (m : List Class) → l ≡ c ∷ m → ⊥
+
+-- The position behind a token of the class; or that class does not come next.
+abbrev pub Comes : List ℕ → ℕ → Class → Option ℕ → Type 0
+Comes s at c None = NotNext c (rest s at)
+Comes s at c (Some n) = (rest s at ≡ c ∷ rest s n) × (at < n) × (n ≤ length s)
 
 -- No operator of the level, or of one that binds tighter, comes next.
 abbrev pub Stops : Level → List Class → Type 0
@@ -87,15 +82,21 @@ pub record Asks (k : Level) (s : List ℕ) (at : ℕ) (p : Parts) (depth : ℕ) 
   pub behind : List Class
   pub stands : Stands k (rest s at) formula behind
   pub inside : at ≤ length s
-  pub sound : Sound p
   pub ordered : WellOrdered (held p)
   pub once : Once (held p)
   pub near : depth ≤ most_names
 
--- The operand was read to its end, and the table has its parts; or they are too many.
-pub record Gives (k : Level) (s : List ℕ) (at : ℕ) (p : Parts) (depth : ℕ) (r : Parsed) : Type 0 where
-  pub forward : at < r.next
-  pub inside : r.next ≤ length s
-  pub sound : Sound r.parts
-  pub read : (f : Formula) (behind : List Class) → Stands k (rest s at) f behind → r.fits ≡ true → (rest s r.next ≡ behind) × Holds (with_formula (held p) f) r
-  pub large : (f : Formula) (behind : List Class) → Stands k (rest s at) f behind → r.fits ≡ false → Exceeds (held p) depth f
+-- An operand was read to its end, and the table has its parts.
+pub record Reads (s : List ℕ) (f : Formula) (behind : List Class) (p q : Parts) (o : Operand) : Type 0 where
+  pub behind_is : rest s o.next ≡ behind
+  pub holds : Holds (with_formula (held p) f) q o.root
+
+-- So each operand that stands there was read; or its parts are too many.
+abbrev pub Gives : Level → List ℕ → ℕ → Parts → ℕ → Parts → Option Operand → Type 0
+Gives k s at p depth q (Some o) = (at < o.next) × (o.next ≤ length s) × ((f : Formula) (behind : List Class) → Stands k (rest s at) f behind → Reads s f behind p q o)
+Gives k s at p depth q None = (f : Formula) (behind : List Class) → Stands k (rest s at) f behind → Exceeds (held p) depth f
+
+-- A leaf was named, up to a position past the spaces; or the table has no room for it.
+abbrev pub LeafRead : List ℕ → ℕ → Parts → Entry → Parts → Option Operand → Type 0
+LeafRead s at p e q (Some o) = PastSpaces s at o.next × Holds (with_entry (held p) e) q o.root
+LeafRead s at p e q None = room < length (with_entry (held p) e).table

@@ -5,7 +5,6 @@ use Rattle.syntax.specs.Refusal.{most_names}
 use Rattle.syntax.specs.declared.Connective as declared
 use Rattle.syntax.specs.declared.Part.{Part}
 use Rattle.syntax.specs.declared.Part.TheVariants.{Letter, Falsum, Compound}
-use Rattle.syntax.specs.declared.Node.{Node}
 use Rattle.syntax.specs.declared.Parts.{Parts}
 
 abbrev pub connective_of : declared.Connective → Connective
@@ -20,7 +19,7 @@ entry_of (Compound c a b) = compound (connective_of c) a b
 
 -- The rows held.
 abbrev pub held : Parts → List Entry
-held p = map (λ (n : Node). entry_of n.part) (take p.count p.nodes)
+held p = map entry_of (take p.count p.nodes)
 
 -- The rows of the table of parts: letters and names, and ⊥.
 abbrev pub room : ℕ
@@ -31,6 +30,5 @@ pub record Sound (p : Parts) : Type 0 where
   pub bounded : p.count ≤ room
 
 -- The table without rows.
-pub record Empty (p : Parts) : Type 0 where
-  pub sound : Sound p
-  pub none : held p ≡ []
+abbrev pub Empty : Parts → Type 0
+Empty p = held p ≡ []

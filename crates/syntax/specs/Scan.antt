@@ -1,15 +1,10 @@
 -- The one-pass scan for refusal 3: whether an operand is wanted next, which parentheses are open, and where an `=` has stood.
-use Rattle.std.specs.Prelude.{Bool, true, false, List, [], ◌∷◌, map, ◌≡◌, ℕ, zero, suc, ◌<◌}
+use Rattle.std.specs.Prelude.{Bool, true, false, List, [], ◌∷◌, map, ◌≡◌, ℕ, zero, suc, ◌<◌, Option, Some, None}
 use Rattle.atoms.specs.Sets.{has}
 use Rattle.atoms.specs.Words.{num}
 use Rattle.syntax.specs.Class.{Class, foreign, closing, ampersand, bar, greater, equals, blank, tilde, opening, nought, lowercase, class_of, after}
-use Rattle.syntax.specs.Code.{code_of}
 use Rattle.syntax.specs.Refusal.{most_open}
 use Rattle.syntax.specs.declared.scan.Levels.{Levels}
-use Rattle.syntax.specs.declared.scan.Turn.{Turn}
-use Rattle.syntax.specs.declared.scan.Turn.TheVariants.{Misfit, Fits}
-use Rattle.syntax.specs.declared.scan.Scan.{Scan}
-use Rattle.syntax.specs.declared.scan.Scan.TheVariants.{Whole, Fault}
 
 -- After a token that does not fit; or an operand is wanted or not, with the levels at which an `=` has stood: the innermost open
 -- parenthesis's, and those around it, the text's last.
@@ -82,18 +77,23 @@ abbrev pub state_of : Bool → Levels → State
 state_of true l = wanted l.equated (around l)
 state_of false l = had l.equated (around l)
 
-abbrev pub turn_state : Turn → State
-turn_state Misfit = misfit
-turn_state (Fits w l) = state_of w l
+-- After a token: with an operand wanted or not, as given or as told.
+abbrev pub level_state : Bool → Option Levels → State
+level_state w None = misfit
+level_state w (Some l) = state_of w l
+
+abbrev pub turn_state : Option (Bool × Levels) → State
+turn_state None = misfit
+turn_state (Some t) = state_of t.0 t.1
 
 -- Where the next token opens a parenthesis, there is a level for it.
-abbrev pub MayOpen : Levels → ℕ → Type 0
-MayOpen l class = class ≡ code_of opening → l.depth < most_open
+abbrev pub MayOpen : Levels → Class → Type 0
+MayOpen l class = class ≡ opening → l.depth < most_open
 
 -- The scan of a whole text ends with no operand wanted and nothing open; or the first that does not fit.
 abbrev pub scanned : List ℕ → State
 scanned s = after move start (map class_of s)
 
-abbrev pub Scanned : List ℕ → Scan → Type 0
-Scanned s Whole = ends (scanned s) ≡ true
-Scanned s (Fault k) = (ends (scanned s) ≡ false) × (k ≡ fitting start (map class_of s))
+abbrev pub Scanned : List ℕ → Option ℕ → Type 0
+Scanned s None = ends (scanned s) ≡ true
+Scanned s (Some k) = (ends (scanned s) ≡ false) × (k ≡ fitting start (map class_of s))

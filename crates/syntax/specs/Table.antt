@@ -1,30 +1,23 @@
--- What the functions of the table ask and give: a part was named, or there is no room for it.
-use Rattle.std.specs.Prelude.{true, false, List, ◌≡◌, ℕ, ◌<◌, length}
-use Rattle.syntax.specs.Nodes.{Connective, And, Implies, Entry, falsum, compound, Named, with_entry}
-use Rattle.syntax.specs.Parts.{entry_of, held, room, Sound}
-use Rattle.syntax.specs.declared.Part.{Part}
-use Rattle.syntax.specs.declared.table.Parsed.{Parsed}
+-- What the functions of the table give: a part has a row, or there is no room for one.
+use Rattle.std.specs.Prelude.{List, ◌≡◌, ℕ, ◌≤◌, ◌<◌, length, Option, Some, None}
+use Rattle.syntax.specs.Nodes.{Connective, And, Implies, Entry, falsum, compound, Named, index_of, with_entry}
+use Rattle.syntax.specs.Parts.{held, room}
+use Rattle.syntax.specs.declared.Parts.{Parts}
 
--- r holds the table and the index.
-pub record Holds (n : Named) (r : Parsed) : Type 0 where
-  pub table : held r.parts ≡ n.table
-  pub root : r.root ≡ n.root
+-- The row of an entry, where the table has one.
+abbrev pub Found : List Entry → Entry → Option ℕ → Type 0
+Found T e (Some row) = (row ≡ index_of e T) × (row < length T)
+Found T e None = length T ≤ index_of e T
+
+-- The code's table is the one named, and the row that of its root.
+pub record Holds (n : Named) (q : Parts) (root : ℕ) : Type 0 where
+  pub table : held q ≡ n.table
+  pub root_is : root ≡ n.root
 
 -- A part was named; or the table has no room for it.
-pub record Names (n : Named) (next : ℕ) (r : Parsed) : Type 0 where
-  pub sound : Sound r.parts
-  pub next_is : r.next ≡ next
-  pub holds : r.fits ≡ true → Holds n r
-  pub full : r.fits ≡ false → room < length n.table
-
--- A part was named over an operand; or there was no room for that one.
-pub record Makes (W : List Entry → ℕ → Named) (o r : Parsed) : Type 0 where
-  pub named : o.fits ≡ true → Names (W (held o.parts) o.root) o.next r
-  pub stays : o.fits ≡ false → r ≡ o
-
--- The part in the place of the operand.
-abbrev pub with_part : Part → List Entry → ℕ → Named
-with_part e T a = with_entry T (entry_of e)
+abbrev pub Names : Named → Parts → Option ℕ → Type 0
+Names n q (Some root) = Holds n q root
+Names n q None = room < length n.table
 
 -- The compound of an operand with this index and the one after it.
 abbrev pub with_compound : Connective → ℕ → List Entry → ℕ → Named

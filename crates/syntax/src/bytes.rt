@@ -1,92 +1,58 @@
 // The class of a byte, and the next token of a text.
 ghost use Rattle.std.specs.Prelude.{◌≡◌, ◌≤◌, length};
 ghost use Rattle.syntax.specs.Class.{class_of};
-ghost use Rattle.syntax.specs.Code.{code_of, decode, joins, is_letter, is_leaf};
-ghost use Rattle.syntax.specs.Descent.{PastSpaces, NextToken};
+ghost use Rattle.syntax.specs.Code.{decode};
+ghost use Rattle.syntax.specs.Descent.{PastSpaces, NextToken, Comes};
 
-pub const FOREIGN: u8 = 0;
-
-pub const CLOSING: u8 = 1;
-
-pub const AND: u8 = 2;
-
-pub const OR: u8 = 3;
-
-pub const IMPLIES: u8 = 4;
-
-pub const EQUALS: u8 = 5;
-
-pub const BLANK: u8 = 6;
-
-pub const NOT: u8 = 7;
-
-pub const OPENING: u8 = 8;
-
-pub const FALSUM: u8 = 9;
-
-// The letter a; the others follow.
-pub const LETTER: u8 = 10;
+#[derive(Clone, Copy, PartialEq, Eq)]
+pub enum Class {
+    Foreign,
+    Closing,
+    And,
+    Or,
+    Implies,
+    Equals,
+    Blank,
+    Not,
+    Opening,
+    Falsum,
+    // By its number from a on.
+    Letter(u8),
+}
 
 // By comparing, one stretch of bytes after the other: of more cases in one match the compiler would make a table again.
-pub fn class_of(b: u8) -> u8
-    ensures { result ≡ code_of (class_of b) }
+pub fn class_of(b: u8) -> Class
+    ensures { decode result ≡ class_of b }
 {
     if b < b'(' {
         return match b {
-            b' ' => BLANK,
-            b'&' => AND,
-            _ => FOREIGN,
+            b' ' => Class::Blank,
+            b'&' => Class::And,
+            _ => Class::Foreign,
         };
     }
     if b < b'0' {
         return match b {
-            b'(' => OPENING,
-            b')' => CLOSING,
-            _ => FOREIGN,
+            b'(' => Class::Opening,
+            b')' => Class::Closing,
+            _ => Class::Foreign,
         };
     }
     if b < b'a' {
         return match b {
-            b'0' => FALSUM,
-            b'=' => EQUALS,
-            b'>' => IMPLIES,
-            _ => FOREIGN,
+            b'0' => Class::Falsum,
+            b'=' => Class::Equals,
+            b'>' => Class::Implies,
+            _ => Class::Foreign,
         };
     }
     if b <= b'z' {
-        return LETTER + (b - b'a');
+        return Class::Letter(b - b'a');
     }
     match b {
-        b'|' => OR,
-        b'~' => NOT,
-        _ => FOREIGN,
-    }
-}
-
-// `&`, `|`, `>` or `=`: it stands between two operands.
-pub fn is_binary(class: u8) -> bool
-    ensures { result ≡ joins (decode class) }
-{
-    match class {
-        AND | OR | IMPLIES | EQUALS => true,
-        _ => false,
-    }
-}
-
-pub fn is_letter(class: u8) -> bool
-    ensures { result ≡ is_letter (decode class) }
-{
-    LETTER <= class
-}
-
-// An operand by itself.
-pub fn is_leaf(class: u8) -> bool
-    ensures { result ≡ is_leaf (decode class) }
-{
-    if class == FALSUM {
-        true
-    } else {
-        is_letter(class)
+        b'|' => Class::Or,
+        b'~' => Class::Not,
+        _ => Class::Foreign,
     }
 }
 
@@ -95,19 +61,17 @@ pub fn past_spaces(s: &[u8], at: usize) -> usize
     requires { at ≤ length s.now }
     ensures { PastSpaces s.now at result }
 {
-    let mut i = at;
-    while i < s.len() {
+    for i in at..s.len() {
         if s[i] != b' ' {
             return i;
         }
-        i += 1;
     }
-    i
+    s.len()
 }
 
 #[derive(Clone, Copy)]
 pub struct Token {
-    pub class: u8,
+    pub class: Class,
     pub next: usize,
 }
 
@@ -124,7 +88,19 @@ pub fn next_token(s: &[u8], at: usize) -> Token
         };
     }
     Token {
-        class: FOREIGN,
+        class: Class::Foreign,
         next: i,
     }
+}
+
+// The position after a token of this class, where one comes next.
+pub fn after(s: &[u8], at: usize, class: Class) -> Option<usize>
+    requires { at ≤ length s.now }
+    ensures { Comes s.now at (decode class) result }
+{
+    let i = past_spaces(s, at);
+    if i < s.len() && class_of(s[i]) == class {
+        return Some(i + 1);
+    }
+    None
 }

@@ -1,125 +1,128 @@
 // The reader functions, one for each level of the grammar: they call one another through parentheses, and the bytes left fall.
 // The passes have judged the text, so an operand stands wherever one is wanted, and few parentheses are open. `depth` counts the `~` and
 // `>` that wait for an operand: they stand within one another, so their parts differ, and with too many of them the reading ends at once,
-// as it does when the table is full. So the depth of the calls is bounded. `leaf` stands apart to keep the frames of the recursion small.
+// as it does when the table is full. So the depth of the calls is bounded. The table is lent, so the frames of the recursion are small.
 // Spaces behind an operand are passed over where it ends, once and not at each level.
-ghost use Rattle.syntax.specs.Parts.{Sound};
+ghost use Rattle.std.specs.Prelude.{◌≤◌, length};
 ghost use Rattle.syntax.specs.Descent.{LeafRead, Asks, Gives};
 ghost use Rattle.syntax.specs.Grammar.{Level};
+ghost use Rattle.syntax.specs.Parts.{entry_of};
 
-use super::{Connective, MOST_NAMES, Part, Parts, bytes, table};
-use table::Parsed;
+use super::{Connective, MOST_NAMES, Part, Parts, bytes};
+use bytes::Class;
 
-// ⊥ or a letter, by its class. A `~` comes here where it stands within too many connectives, and has no room.
-fn leaf(parts: Parts, class: u8, next: usize) -> Parsed
-    requires { Sound parts }
-    ensures { LeafRead parts class next result }
+// An operand that was read: its row in the table, and the position after it.
+#[derive(Clone, Copy)]
+pub struct Operand {
+    pub root: u8,
+    pub next: usize,
+}
+
+// ⊥ or a letter, which ends at the position.
+fn leaf(s: &[u8], at: usize, parts: &mut Parts, part: Part) -> Option<Operand>
+    requires { at ≤ length s.now }
+    ensures { LeafRead s.now at parts.old (entry_of part) parts.new result }
 {
-    let before = Parsed {
-        fits: class != bytes::NOT,
-        next,
-        root: 0,
-        parts,
+    let root = parts.insert(part)?;
+    Some(Operand {
+        root,
+        next: bytes::past_spaces(s, at),
+    })
+}
+
+#[cycle(conjunction_disjunction_equivalence_implication_negation)]
+pub fn equivalence(s: &[u8], at: usize, parts: &mut Parts, depth: usize) -> Option<Operand>
+    requires { Asks Level.equivalence s.now at parts.old depth }
+    ensures { Gives Level.equivalence s.now at parts.old depth parts.new result }
+{
+    let left = implication(s, at, parts, depth)?;
+    let Some(next) = bytes::after(s, left.next, Class::Equals) else {
+        return Some(left);
     };
-    if bytes::is_letter(class) {
-        let letter = class - bytes::LETTER;
-        return table::with_part(before, Part::Letter(letter));
-    }
-    table::with_part(before, Part::Falsum)
+    let right = implication(s, next, parts, depth)?;
+    Some(Operand {
+        root: parts.equivalence(left.root, right.root)?,
+        ..right
+    })
 }
 
 #[cycle(conjunction_disjunction_equivalence_implication_negation)]
-pub fn equivalence(s: &[u8], at: usize, parts: Parts, depth: usize) -> Parsed
-    requires { Asks Level.equivalence s.now at parts depth }
-    ensures { Gives Level.equivalence s.now at parts depth result }
+fn implication(s: &[u8], at: usize, parts: &mut Parts, depth: usize) -> Option<Operand>
+    requires { Asks Level.implication s.now at parts.old depth }
+    ensures { Gives Level.implication s.now at parts.old depth parts.new result }
 {
-    let mut whole = implication(s, at, parts, depth);
-    if whole.fits {
-        let t = bytes::next_token(s, whole.next);
-        if t.class == bytes::EQUALS {
-            let left = whole.root;
-            whole = implication(s, t.next, whole.parts, depth);
-            whole = table::equivalence(left, whole);
-        }
+    let left = disjunction(s, at, parts, depth)?;
+    let Some(next) = bytes::after(s, left.next, Class::Implies) else {
+        return Some(left);
+    };
+    if depth == MOST_NAMES {
+        return None;
     }
-    whole
+    let right = implication(s, next, parts, depth + 1)?;
+    Some(Operand {
+        root: parts.compound(Connective::Implies, left.root, right.root)?,
+        ..right
+    })
 }
 
 #[cycle(conjunction_disjunction_equivalence_implication_negation)]
-fn implication(s: &[u8], at: usize, parts: Parts, depth: usize) -> Parsed
-    requires { Asks Level.implication s.now at parts depth }
-    ensures { Gives Level.implication s.now at parts depth result }
+fn disjunction(s: &[u8], at: usize, parts: &mut Parts, depth: usize) -> Option<Operand>
+    requires { Asks Level.disjunction s.now at parts.old depth }
+    ensures { Gives Level.disjunction s.now at parts.old depth parts.new result }
 {
-    let mut whole = disjunction(s, at, parts, depth);
-    if whole.fits {
-        let t = bytes::next_token(s, whole.next);
-        if t.class == bytes::IMPLIES {
-            if depth == MOST_NAMES {
-                whole.fits = false;
-                return whole;
-            }
-            let left = whole.root;
-            whole = implication(s, t.next, whole.parts, depth + 1);
-            whole = table::compound(Connective::Implies, left, whole);
-        }
+    let mut whole = conjunction(s, at, parts, depth)?;
+    while let Some(next) = bytes::after(s, whole.next, Class::Or) {
+        let right = conjunction(s, next, parts, depth)?;
+        whole = Operand {
+            root: parts.compound(Connective::Or, whole.root, right.root)?,
+            ..right
+        };
     }
-    whole
+    Some(whole)
 }
 
 #[cycle(conjunction_disjunction_equivalence_implication_negation)]
-fn disjunction(s: &[u8], at: usize, parts: Parts, depth: usize) -> Parsed
-    requires { Asks Level.disjunction s.now at parts depth }
-    ensures { Gives Level.disjunction s.now at parts depth result }
+fn conjunction(s: &[u8], at: usize, parts: &mut Parts, depth: usize) -> Option<Operand>
+    requires { Asks Level.conjunction s.now at parts.old depth }
+    ensures { Gives Level.conjunction s.now at parts.old depth parts.new result }
 {
-    let mut whole = conjunction(s, at, parts, depth);
-    while whole.fits {
-        let t = bytes::next_token(s, whole.next);
-        if t.class != bytes::OR {
-            return whole;
-        }
-        let left = whole.root;
-        whole = conjunction(s, t.next, whole.parts, depth);
-        whole = table::compound(Connective::Or, left, whole);
+    let mut whole = negation(s, at, parts, depth)?;
+    while let Some(next) = bytes::after(s, whole.next, Class::And) {
+        let right = negation(s, next, parts, depth)?;
+        whole = Operand {
+            root: parts.compound(Connective::And, whole.root, right.root)?,
+            ..right
+        };
     }
-    whole
+    Some(whole)
 }
 
 #[cycle(conjunction_disjunction_equivalence_implication_negation)]
-fn conjunction(s: &[u8], at: usize, parts: Parts, depth: usize) -> Parsed
-    requires { Asks Level.conjunction s.now at parts depth }
-    ensures { Gives Level.conjunction s.now at parts depth result }
-{
-    let mut whole = negation(s, at, parts, depth);
-    while whole.fits {
-        let t = bytes::next_token(s, whole.next);
-        if t.class != bytes::AND {
-            return whole;
-        }
-        let left = whole.root;
-        whole = negation(s, t.next, whole.parts, depth);
-        whole = table::compound(Connective::And, left, whole);
-    }
-    whole
-}
-
-#[cycle(conjunction_disjunction_equivalence_implication_negation)]
-fn negation(s: &[u8], at: usize, parts: Parts, depth: usize) -> Parsed
-    requires { Asks Level.negation s.now at parts depth }
-    ensures { Gives Level.negation s.now at parts depth result }
+fn negation(s: &[u8], at: usize, parts: &mut Parts, depth: usize) -> Option<Operand>
+    requires { Asks Level.negation s.now at parts.old depth }
+    ensures { Gives Level.negation s.now at parts.old depth parts.new result }
 {
     let t = bytes::next_token(s, at);
-    if t.class == bytes::NOT {
-        if depth == MOST_NAMES {
-            return leaf(parts, t.class, t.next);
+    match t.class {
+        Class::Not => {
+            if depth == MOST_NAMES {
+                return None;
+            }
+            let operand = negation(s, t.next, parts, depth + 1)?;
+            Some(Operand {
+                root: parts.negation(operand.root)?,
+                ..operand
+            })
         }
-        let operand = negation(s, t.next, parts, depth + 1);
-        return table::negation(operand);
+        Class::Opening => {
+            let inner = equivalence(s, t.next, parts, depth)?;
+            let close = bytes::next_token(s, inner.next);
+            Some(Operand {
+                next: bytes::past_spaces(s, close.next),
+                ..inner
+            })
+        }
+        Class::Letter(letter) => leaf(s, t.next, parts, Part::Letter(letter)),
+        _ => leaf(s, t.next, parts, Part::Falsum),
     }
-    if t.class == bytes::OPENING {
-        let mut inner = equivalence(s, t.next, parts, depth);
-        let close = bytes::next_token(s, inner.next);
-        inner.next = bytes::past_spaces(s, close.next);
-        return inner;
-    }
-    leaf(parts, t.class, bytes::past_spaces(s, t.next))
 }

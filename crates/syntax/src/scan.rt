@@ -3,10 +3,11 @@ ghost use Rattle.std.specs.Prelude.{true, false, ◌≡◌, ◌<◌};
 ghost use Rattle.syntax.specs.Class.{closing, equals, opening};
 ghost use Rattle.syntax.specs.Code.{decode};
 ghost use Rattle.syntax.specs.Refusal.{most_open, TooDeep};
-ghost use Rattle.syntax.specs.Scan.{Scanned, MayOpen, move, state_of, turn_state};
+ghost use Rattle.syntax.specs.Scan.{Scanned, MayOpen, move, state_of, turn_state, level_state};
 
 use super::bytes;
 use atoms::AtomSet;
+use bytes::Class;
 
 // Each open parenthesis has a level, and so has the text outside them. Whether an `=` has stood at the innermost; how many
 // parentheses are open; and the levels around it, from 0 outside, at which one has stood.
@@ -17,100 +18,80 @@ struct Levels {
     outer: AtomSet,
 }
 
-// A token that does not fit; or whether an operand is wanted after it, and the levels.
-#[derive(Clone, Copy)]
-enum Turn {
-    Misfit,
-    Fits(bool, Levels),
-}
-
-// A new level; the one left is kept for the parenthesis that closes.
-fn opened(l: Levels) -> Turn
-    requires { l.depth < most_open }
-    ensures { turn_state result ≡ move (state_of true l) opening }
-{
-    let left = AtomSet::single(l.depth);
-    let outer = if l.equated {
-        l.outer.join(left)
-    } else {
-        l.outer.without(left)
-    };
-    let inner = Levels {
-        equated: false,
-        depth: l.depth + 1,
-        outer,
-    };
-    Turn::Fits(true, inner)
-}
-
-// The level around, as it was left.
-fn closed(l: Levels) -> Turn
-    ensures { turn_state result ≡ move (state_of false l) closing }
-{
-    if l.depth == 0 {
-        return Turn::Misfit;
+impl Levels {
+    // A new level; the one left is kept for the parenthesis that closes.
+    fn opened(self) -> Self
+        requires { self.depth < most_open }
+        ensures { state_of true result ≡ move (state_of true self) opening }
+    {
+        let left = AtomSet::single(self.depth);
+        let outer = if self.equated {
+            self.outer.join(left)
+        } else {
+            self.outer.without(left)
+        };
+        Levels {
+            equated: false,
+            depth: self.depth + 1,
+            outer,
+        }
     }
-    let depth = l.depth - 1;
-    let outer = l.outer;
-    let around = Levels {
-        equated: outer.has(depth),
-        depth,
-        outer,
-    };
-    Turn::Fits(false, around)
-}
 
-fn equated(l: Levels) -> Turn
-    ensures { turn_state result ≡ move (state_of false l) equals }
-{
-    if l.equated {
-        return Turn::Misfit;
+    // The level around, as it was left.
+    fn closed(self) -> Option<Self>
+        ensures { level_state false result ≡ move (state_of false self) closing }
+    {
+        let depth = self.depth.checked_sub(1)?;
+        Some(Levels {
+            equated: self.outer.has(depth),
+            depth,
+            ..self
+        })
     }
-    let mut same = l;
-    same.equated = true;
-    Turn::Fits(true, same)
+
+    // An `=` stands at the innermost level, where none has stood.
+    fn equated(self) -> Option<Self>
+        ensures { level_state true result ≡ move (state_of false self) equals }
+    {
+        if self.equated {
+            return None;
+        }
+        Some(Levels {
+            equated: true,
+            ..self
+        })
+    }
 }
 
-// A space changes nothing.
-fn step(operand: bool, levels: Levels, class: u8) -> Turn
-    requires { MayOpen levels class }
+// Whether an operand is wanted after a token, and the levels; none where it does not fit. A space changes nothing. No match has more
+// than three kinds of class, of which the compiler would make a table.
+fn step(operand: bool, levels: Levels, class: Class) -> Option<(bool, Levels)>
+    requires { MayOpen levels (decode class) }
     ensures { turn_state result ≡ move (state_of operand levels) (decode class) }
 {
-    if class == bytes::BLANK {
-        return Turn::Fits(operand, levels);
-    }
     if operand {
-        if class == bytes::NOT {
-            return Turn::Fits(true, levels);
+        if matches!(class, Class::Falsum | Class::Letter(_)) {
+            return Some((false, levels));
         }
-        if class == bytes::OPENING {
-            return opened(levels);
-        }
-        if bytes::is_leaf(class) {
-            return Turn::Fits(false, levels);
-        }
-        return Turn::Misfit;
+        return match class {
+            Class::Blank | Class::Not => Some((true, levels)),
+            Class::Opening => Some((true, levels.opened())),
+            _ => None,
+        };
     }
-    if class == bytes::CLOSING {
-        return closed(levels);
+    if matches!(class, Class::And | Class::Or | Class::Implies) {
+        return Some((true, levels));
     }
-    if class == bytes::EQUALS {
-        return equated(levels);
+    match class {
+        Class::Blank => Some((false, levels)),
+        Class::Closing => Some((false, levels.closed()?)),
+        Class::Equals => Some((true, levels.equated()?)),
+        _ => None,
     }
-    if bytes::is_binary(class) {
-        return Turn::Fits(true, levels);
-    }
-    Turn::Misfit
 }
 
-#[derive(Clone, Copy)]
-pub enum Scan {
-    Whole,
-    Fault(usize),
-}
-
-// A formula, or how many bytes begin one. The reader has judged the depth.
-pub fn find_fault(s: &[u8]) -> Scan
+// How many bytes begin a formula, where the text is none. The reader has judged the depth.
+pub fn fault(s: &[u8]) -> Option<usize>
     requires { ¬ TooDeep s.now }
     ensures { Scanned s.now result }
 {
@@ -120,24 +101,17 @@ pub fn find_fault(s: &[u8]) -> Scan
         depth: 0,
         outer: AtomSet::EMPTY,
     };
-    let mut i: usize = 0;
-    while i < s.len() {
+    for i in 0..s.len() {
         match step(operand, levels, bytes::class_of(s[i])) {
-            Turn::Misfit => {
-                return Scan::Fault(i);
+            Some((next, around)) => {
+                operand = next;
+                levels = around;
             }
-            Turn::Fits(o, l) => {
-                operand = o;
-                levels = l;
-                i += 1;
-            }
+            None => return Some(i),
         }
     }
-    if operand {
-        return Scan::Fault(i);
+    if operand || levels.depth != 0 {
+        return Some(s.len());
     }
-    if levels.depth == 0 {
-        return Scan::Whole;
-    }
-    Scan::Fault(i)
+    None
 }

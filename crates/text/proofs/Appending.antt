@@ -1,89 +1,96 @@
--- Laws of a text that is written piece by piece into a buffer.
-use mathlib.Core.List.{List, [], ◌∷◌, ◌++◌, append-nil, append_assoc}
+-- Laws of a text that is written piece by piece into a draft.
+use mathlib.Core.List.{List, [], ◌++◌, append-nil, append_assoc}
 use mathlib.Core.Logic.{◌⊎◌, inl, inr}
 use mathlib.Core.Path.{◌≡◌, refl, sym, ap, ◌∙◌, subst}
-use Prim.Native.Nat.{ℕ, ◌+◌, ◌≤◌, ◌<◌}
+use Prim.Native.Nat.{ℕ, ◌+◌, ◌-◌, ◌≤◌, ◌<◌, min}
 use native.Mathlib.Decide.{dec_le}
-use native.Mathlib.Numerals.{add-one}
+use native.Mathlib.Nat.{add-zero}
 use native.Mathlib.Omega.{arith}
-use lib.ListN.{length, take, drop, get_or, set, length-append, length-set}
-use lib.Seq.{take_all, take-suc, take-suc-set, take-append-le, take-take}
+use lib.ListN.{length, take, drop, length-append}
+use lib.Seq.{length-take-le, take_all, take-append-le}
 use borrow.Author.Tests.{le-leb}
+use borrow.Rule.Slice.PartMut.{put_mid, mid_of, same_len_mid}
+use Rattle.std.proofs.Math.Seq.{take-append-add}
+use Rattle.std.proofs.lemmas.Slice.{take-put_mid}
 use Rattle.atoms.specs.Bytes.{put_at}
 use Rattle.atoms.proofs.Bytes.{put_past}
-use Rattle.text.specs.Output.{draft, longest, room, Begins, Appends, Gives, Reported}
+use Rattle.text.specs.declared.draft.Draft.{Draft}
+use Rattle.text.specs.Output.{draft, longest, room, Begins, Holds, Appends, Started, Gives, Reported}
 
 -- ---- pieces
 
-pub same_text : {A B x y : List ℕ} {at r : ℕ} → A ≡ B → Appends A x at y r → Appends B x at y r
-same_text {A} {B} {x} {y} {at} {r} e p = subst (λ l. Appends l x at y r) e p
+pub same_text : {A B : List ℕ} {d e : Draft} → A ≡ B → Appends A d e → Appends B d e
+same_text {A} {B} {d} {e} same p = subst (λ l. Appends l d e) same p
 
-pub nothing : (text : List ℕ) (at : ℕ) → Appends [] text at text at
-nothing text at = record { size = refl; follows = λ T e. rw (append-nil T) e }
+pub nothing : (d : Draft) → Appends [] d d
+nothing d = record { same_reference = refl; size = refl; follows = λ T h. rw (append-nil T) h }
 
-pub both : {A B x y z : List ℕ} {at m r : ℕ} → Appends A x at y m → Appends B y m z r → Appends (A ++ B) x at z r
-both {A} {B} {x} {y} {z} {at} {m} {r} p q =
-    record { size = q.size ∙ p.size; follows = λ T e. subst (λ l. Begins l z r) (append_assoc T A B) (q.follows (T ++ A) (p.follows T e)) }
+pub both : {A B : List ℕ} {d e f : Draft} → Appends A d e → Appends B e f → Appends (A ++ B) d f
+both {A} {B} {d} {e} {f} p q = record {
+  same_reference = q.same_reference ∙ p.same_reference;
+  size = q.size ∙ p.size;
+  follows = λ T h. subst (λ l. Holds l f) (append_assoc T A B) (q.follows (T ++ A) (p.follows T h));
+}
 
--- A full buffer has the beginning of whatever follows.
-pub full : (new text : List ℕ) (at : ℕ) → length text ≤ at → Appends new text at text at
-full new text at h = record { size = refl; follows = more }
-  where
-    more : (T : List ℕ) → Begins T text at → Begins (T ++ new) text at
-    more T e =
-        let inside : at ≤ length T = omega (arith, e.fills) in
-        record { fills = omega (arith, e.fills, length-append T new); same = e.same ∙ sym (take-append-le at T new inside) }
+-- As many of the new bytes as there is room for come after those that stand.
+module _ (new text : List ℕ) (end n : ℕ) (few : n ≡ min (length new) (length text - end)) where
+  taken : (T : List ℕ) → Begins T text end → take end T ++ take n new ≡ take (end + n) (T ++ new)
+  taken T b = elim (dec_le (length T) end) [
+    | yes h ↦
+        let whole : take end T ≡ T = take_all end T h in
+        let here : end ≡ length T = omega (arith, b.fills) in
+        rw (whole, here) (sym (take-append-add T new n))
+    | no h ↦
+        let none : n ≡ 0 = omega (arith, b.fills) in
+        rw (none, add-zero, append-nil) (sym (take-append-le end T new (omega (arith, b.fills))))
+  ]
 
-pub one_more : (text : List ℕ) (at b : ℕ) → at < length text → Appends (b ∷ []) text at (set text at b) (at + 1)
-one_more text at b h = record { size = length-set text at b; follows = more }
-  where
-    more : (T : List ℕ) → Begins T text at → Begins (T ++ (b ∷ [])) (set text at b) (at + 1)
-    more T e =
-        let here : at ≡ length T = omega (arith, e.fills) in
-        let longer : length (T ++ (b ∷ [])) ≡ length T + 1 = length-append T (b ∷ []) in
+  module _ (mid : List ℕ) (is : mid ≡ take n new) (as_long : length mid ≡ length (mid_of end (end + n - end) text)) where
+    abbrev after : List ℕ
+    after = put_mid end (end + n - end) text mid
+
+    pub same_size : length after ≡ length text
+    same_size = same_len_mid end (end + n - end) text mid as_long
+
+    pub begins_more : (T : List ℕ) → Begins T text end → Begins (T ++ new) after (end + n)
+    begins_more T b =
+        let long : length mid ≡ n = ap length is ∙ length-take-le n new (omega arith) in
         record {
-          fills = omega (arith, longer, length-set text at b);
+          fills = omega (arith, b.fills, same_size, length-append T new);
           same =
-              ap (λ (n : ℕ). take n (set text at b)) (add-one at)
-              ∙ take-suc-set text at b h
-              ∙ ap (λ l. l ++ (b ∷ [])) (e.same ∙ take_all at T (omega arith))
-              ∙ sym (take_all (at + 1) (T ++ (b ∷ [])) (omega (arith, longer)));
+              take-put_mid end (end + n - end) text mid (end + n) (omega arith) (omega (arith, b.fills))
+              ∙ ap (λ l. take end text ++ l) is
+              ∙ ap (λ l. l ++ take n new) b.same
+              ∙ taken T b;
         }
-
--- A word, byte by byte.
-pub next_byte : {x y z : List ℕ} {at m r : ℕ} (word : List ℕ) (i b : ℕ) → i < length word → b ≡ get_or word i 0
-    → Appends (take i word) x at y m → Appends (b ∷ []) y m z r → Appends (take (i + 1) word) x at z r
-next_byte word i b h e p q =
-    same_text (sym (ap (λ (n : ℕ). take n word) (add-one i) ∙ take-suc word i 0 h ∙ ap (λ (v : ℕ). take i word ++ (v ∷ [])) (sym e))) (both p q)
-
-pub word_end : {x y : List ℕ} {at m : ℕ} (word : List ℕ) (i : ℕ) → length word ≤ i → Appends (take i word) x at y m → Appends word x at y m
-word_end word i h p = same_text (take_all i word h) p
 
 -- ---- the whole text
 
-pub begun : {T x y : List ℕ} {r : ℕ} → Appends T x 0 y r → Begins T y r
-begun {T} {x} p = p.follows [] (record { fills = omega arith; same = refl })
+-- What is appended to nothing is all that stands.
+pub begun : {T : List ℕ} {d e : Draft} → d.len ≡ 0 → Appends T d e → Holds T e
+begun {T} {d} empty p = p.follows [] (record { fills = omega (arith, empty); same = rw empty refl })
+
+pub started : {T entry exit : List ℕ} {r : ℕ} {d e : Draft} → d.text.now ≡ entry → d.len ≡ 0 → Appends T d e → exit ≡ e.text.now → r ≡ e.len → Started T entry exit r
+started same empty p left long = record { size = ap length left ∙ p.size ∙ ap length same; begins = rw (left, long) (begun empty p) }
 
 module _ (T text output : List ℕ) (n : ℕ) (b : Begins T text n) (buffer : length text ≡ draft) where
-  pub handed : (exit : List ℕ) (m r : ℕ) → n < length text → n ≤ length output → m ≡ n → r ≡ m → exit ≡ take m (take n text) ++ drop m output → Reported T output exit r
+  pub handed : (copied : List ℕ) → n < length text → n ≤ length output → copied ≡ take n text → Reported T output (copied ++ drop n output) n
   unfolding put_at longest
-  handed exit m r h k s e f =
+  handed copied h k is =
       let all : n ≡ length T = omega (arith, b.fills) in
-      let text-is : take n (take n text) ≡ T = take-take n n text (omega arith) ∙ b.same ∙ take_all n T (omega arith) in
+      let whole : copied ≡ T = is ∙ b.same ∙ take_all n T (omega arith) in
       record {
-        size = λ fits. e ∙ s ∙ all;
+        size = λ fits. all;
         written = λ fits.
-            f
-            ∙ ap (λ (j : ℕ). take j (take n text) ++ drop j output) s
-            ∙ ap (λ l. l ++ drop n output) text-is
+            ap (λ l. l ++ drop n output) whole
             ∙ ap (λ (j : ℕ). T ++ drop j output) {x = n} {y = 0 + length T} (omega arith)
             ∙ sym (rw (le-leb (0 + length T) (length output) (omega arith)) refl);
         nothing = λ short. absurd (omega arith);
         unchanged = λ short. absurd (omega arith);
       }
 
-  -- The text is longer than the buffer, or the output is too short for it.
-  pub unhanded : (length text ≤ n) ⊎ (length output < n) → Reported T output output 0
+  -- The text is as long as the buffer or longer, or the output is too short for it.
+  pub unhanded : (n ≡ length text) ⊎ (length output < n) → Reported T output output 0
   unfolding longest
   unhanded h =
       record {
@@ -93,7 +100,7 @@ module _ (T text output : List ℕ) (n : ℕ) (b : Begins T text n) (buffer : le
         unchanged = λ _. refl;
       }
     where
-      short : length T ≤ room output → (length text ≤ n) ⊎ (length output < n) → ⊥
+      short : length T ≤ room output → (n ≡ length text) ⊎ (length output < n) → ⊥
       short fits (inl k) = omega (arith, b.fills)
       short fits (inr k) = omega (arith, b.fills)
 

@@ -1,12 +1,13 @@
 -- Laws of numbers in base ten.
 use mathlib.Core.Bool.{Bool, true, false, cond}
-use mathlib.Core.List.{List, [], ◌∷◌, ◌++◌}
+use mathlib.Core.List.{[], ◌∷◌, ◌++◌}
 use mathlib.Core.Path.{◌≡◌, refl, sym, ap, ap₂, ◌∙◌}
 use Prim.Native.Nat.{ℕ, zero, suc, ◌+◌, ◌/◌, ◌%◌, ◌^◌, ◌<◌}
 use native.Mathlib.Omega.{arith}
 use lib.Dec.{eqb}
 use borrow.Author.Tests.{eqb-false}
 use Rattle.text.specs.Text.{last_digit, decimal_within, decimal}
+use Rattle.text.specs.declared.draft.Draft.{Draft}
 use Rattle.text.specs.Output.{Appends}
 use Rattle.text.proofs.Appending.{same_text, both}
 
@@ -43,12 +44,11 @@ module _ (s rest d : ℕ) (rest_is : rest ≡ s / 10) (digit_is : d ≡ s % 10) 
   pub rest_less : eqb rest 0 ≡ false → rest < s
   rest_less e = let more : (rest ≡ 0) → ⊥ = eqb-false rest 0 e in omega arith
 
-  pub digit_alone : {x z : List ℕ} {at r : ℕ} → eqb rest 0 ≡ true → Appends ((48 + d) ∷ []) x at z r → Appends (decimal s) x at z r
+  pub digit_alone : {x z : Draft} → eqb rest 0 ≡ true → Appends ((48 + d) ∷ []) x z → Appends (decimal s) x z
   digit_alone e p =
       same_text (ap (λ (k : ℕ). (48 + k) ∷ []) digit_is ∙ sym (one_digit s (ap (λ (k : ℕ). eqb k 0) (sym rest_is) ∙ e))) p
 
-  pub digit_after : {x y z : List ℕ} {at m r : ℕ} → eqb rest 0 ≡ false → Appends (decimal rest) x at y m → Appends ((48 + d) ∷ []) y m z r
-      → Appends (decimal s) x at z r
+  pub digit_after : {x y z : Draft} → eqb rest 0 ≡ false → Appends (decimal rest) x y → Appends ((48 + d) ∷ []) y z → Appends (decimal s) x z
   digit_after e p q =
       same_text
       (ap₂ (λ (j k : ℕ). decimal j ++ ((48 + k) ∷ [])) rest_is digit_is ∙ sym (last_digit_lem s (ap (λ (k : ℕ). eqb k 0) (sym rest_is) ∙ e)))

@@ -1,5 +1,5 @@
 -- Texts as bytes, numbers in base ten, and the line of a refusal.
-use Rattle.std.specs.Prelude.{Bool, true, false, cond, List, [], ◌∷◌, ◌++◌, ℕ, zero, suc, ◌+◌, ◌/◌, ◌%◌, eqb, ltb}
+use Rattle.std.specs.Prelude.{Bool, true, false, cond, Option, Some, None, List, [], ◌∷◌, ◌++◌, ℕ, zero, suc, ◌+◌, ◌/◌, ◌%◌, eqb, ltb}
 use Prim.Native.Char.{code}
 use Prim.Native.String.{String, [] as []ˢ, ◌∷◌ as ◌∷ˢ◌}
 
@@ -37,3 +37,8 @@ labelled label x = ascii label ++ decimal x
 unfoldable pub refusal : Bool → ℕ → ℕ → List ℕ
 refusal true number place = labelled "refused " number ++ labelled " at " place ++ ascii "\n"
 refusal false number place = labelled "refused " number ++ ascii "\n"
+
+-- The same by the place, where there is one.
+abbrev pub refusal_told : ℕ → Option ℕ → List ℕ
+refusal_told number (Some place) = refusal true number place
+refusal_told number None = refusal false number 0

@@ -15,7 +15,7 @@ use Rattle.ipl.specs.Book.{Book, answer}
 use Rattle.ipl.specs.Demand.{is_valid, is_refuted}
 use Rattle.ipl.proofs.Book.{goal_taken, goal_settled}
 use Rattle.prover.specs.State.{worlds_of}
-use Rattle.prover.specs.declared.Verdict.{Verdict}
+use Rattle.prover.specs.Told as prover
 use Rattle.syntax.specs.Grammar.{Reads}
 use Rattle.syntax.specs.Nodes.{nodes, named}
 use Rattle.syntax.specs.Refusal.{most_names}
@@ -27,10 +27,8 @@ use Rattle.fork.specs.Fork.{fork}
 use Rattle.fork.specs.Screen as screen
 use Rattle.fork.specs.Screen.{Screening, screening}
 use Rattle.fork.specs.Answer as onFork
-use Rattle.fork.specs.Answer.{sets_of, on_letters, ScreenedAs}
-use Rattle.fork.specs.declared.Outcome as told
-use Rattle.fork.specs.declared.Outcome.TheVariants.{Falls}
-use Rattle.fork.proofs.Right.{screen_right}
+use Rattle.fork.specs.Answer.{sets_of, told, on_letters}
+use Rattle.fork.proofs.Right.{screening_says, screen_right}
 use Rattle.clausify.specs.Naming.{text_book, goal_of}
 use Rattle.clausify.specs.Demand as clausify
 use Rattle.clausify.proofs.TextBook.{text_book_is, goal_in_range, text_reached}
@@ -39,21 +37,20 @@ use Rattle.text.specs.Text.{ascii, refusal}
 use Rattle.report.specs.Report.{refuted_report}
 use Rattle.report.specs.Printed.{printed_end, printed_as, printed}
 use Rattle.report.specs.Screening.{falls_line, passes_line, screening_line}
-use Rattle.report.proofs.Screened.{told_of, told_as}
 use Rattle.zestanchor.specs.Screening.{FallsNeverValid, FallsNeverPrintedValid}
 
 -- The root of every model forces the formula.
 abbrev Everywhere : Formula → Type 0
 Everywhere f = (m : Model) → IsModel m → Forces m m.root f
 
-contrary : (s sets : List ℕ) → onFork.Says s Falls sets → (g : Formula) → Reads s g → Everywhere g → ⊥
+contrary : (s sets : List ℕ) → onFork.Says s (screen.falls sets) → (g : Formula) → Reads s g → Everywhere g → ⊥
 contrary s sets (f, c, h) g reads every =
     h.unforced (subst Everywhere (unique s g f reads c.accepted.reads) every (fork (on_letters f sets)) h.model)
 
 pub falls_never_valid : FallsNeverValid
-falls_never_valid s r q a b falls steps v =
-    let says = subst (λ (x : Verdict). clausify.Says s x (worlds_of q.session.worlds)) v (demand_two s q b) in
-    contrary s (sets_of r) (subst (λ (o : told.Outcome). onFork.Says s o (sets_of r)) falls (screen_right s r a).says) says.0 says.1 says.2
+falls_never_valid s r q a b sets falls steps v =
+    let says = subst (λ (x : prover.Told). clausify.Says s x (worlds_of q.session.worlds)) (ap prover.told v) (demand_two s q b) in
+    contrary s (sets_of sets) (subst (onFork.Says s) (ap told falls) (screen_right s r a).says) says.0 says.1 says.2
 
 -- ---- the bytes of the screen
 
@@ -68,12 +65,8 @@ falls_told (screen.refused number place) sets e = absurd (refusal_other (eqb num
 falls_told screen.passes sets e = let z : ◌≡◌ {A = ℕ} 112 102 = cc in absurd (omega arith)
 falls_told (screen.falls t) sets e = (t, refl)
 
-falls_says : (s t : List ℕ) → screening (judge s) ≡ screen.falls t → onFork.Says s Falls t
-falls_says s t e =
-    let r = told_of (screen.falls t) in
-    let answer = told_as (screen.falls t) in
-    let says = (screen_right s r (subst (λ (o : Screening). ScreenedAs o r) (sym e) answer)).says in
-    subst (λ (o : told.Outcome). onFork.Says s o t) answer.0 (subst (onFork.Says s r.outcome) answer.1 says)
+falls_says : (s t : List ℕ) → screening (judge s) ≡ screen.falls t → onFork.Says s (screen.falls t)
+falls_says s t e = subst (onFork.Says s) e (screening_says s)
 
 -- ---- the bytes of the report
 

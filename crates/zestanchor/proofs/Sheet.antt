@@ -9,6 +9,9 @@ use lib.Dec.{leb}
 use lib.ListN.{length}
 use native.Mathlib.Omega.{arith}
 use borrow.Author.Tests.{le-leb, lt-leb}
+use Rattle.std.specs.Prelude.{Result, Ok, Err}
+use Rattle.refusal.specs.declared.Refusal.{Refusal}
+use Rattle.refusal.specs.declared.Refusal.TheVariants.{NoVerdict, NoRoom}
 use Rattle.atoms.proofs.Bytes.{put_nothing}
 use Rattle.ipl.specs.Search.{State, Outcome, valid, refuted, refused, unfinished}
 use Rattle.ipl.specs.Authors.{program}
@@ -19,10 +22,11 @@ use Rattle.prover.specs.InRange.{in_range}
 use Rattle.prover.specs.Work.{none_done}
 use Rattle.prover.specs.Calls.{NothingHeld, Searched, AskedAs}
 use Rattle.prover.specs.Demand.{question}
+use Rattle.prover.specs.Told as prover
+use Rattle.prover.specs.Told.{Answered}
 use Rattle.prover.specs.declared.Work.{Work}
 use Rattle.prover.specs.declared.Held.{Held}
 use Rattle.prover.specs.declared.Session.{Session}
-use Rattle.prover.specs.declared.Answered.{Answered}
 use Rattle.prover.proofs.Keeping.{nothing_in_range, asked_as}
 use Rattle.prover.proofs.DemandThree.{call_kept}
 use Rattle.syntax.specs.Judge as judgement
@@ -36,8 +40,6 @@ use Rattle.certificate.specs.Format.{encode, contents}
 use Rattle.certificate.specs.Written.{problem_of_book, claim_of_verdict}
 use Rattle.certify.specs.Held.{Certificate, bytes_of, length_of, certificate_held}
 use Rattle.certify.specs.Written.{told_of, length_told, WrittenAs, Written}
-use Rattle.certify.specs.declared.Length.{Length}
-use Rattle.certify.specs.declared.Length.TheVariants.{Bytes, Refused}
 use Rattle.certify.proofs.Buffer.{bytes_counted, answer_counted, refused_unwritten}
 use Rattle.text.specs.Output.{Gives, Reported}
 use Rattle.report.specs.Report.{report_of}
@@ -50,7 +52,7 @@ abbrev bytes_in : Option Certificate → List ℕ
 bytes_in none = []
 bytes_in (some x) = bytes_of x
 
-gives : (x : Option Certificate) (before after : List ℕ) (l : Length) → WrittenAs x before l after → Gives (bytes_in x) before after (size_of l)
+gives : (x : Option Certificate) (before after : List ℕ) (l : Result ℕ Refusal) → WrittenAs x before l after → Gives (bytes_in x) before after (size_of l)
 gives none before after l w = record { output = w.buffer ∙ put_nothing before 0; fits = λ h. ap size_of w.answer; short = λ h. ap size_of w.answer }
 gives (some x) before after l w = record {
   output = w.buffer;
@@ -91,7 +93,7 @@ settled_holds (judgement.accepted t) r (s, holds, asked) =
     let k = text_book t in
     let reached : Reached (book s) = subst Reached (sym holds.clauses) (text_reached t) in
     let i = nothing_in_range none_done s reached holds.nothing in
-    let x : Answered = record { verdict = r.verdict; session = r.session } in
+    let x = prover.answered r.verdict r.session in
     let a = asked_as s i reached program r.goal x asked in (
       (call_kept s i reached (question program r.goal) x asked).1,
       held_sheet k r.goal s holds.clauses x none_done holds.nothing (answer k r.goal) (subst (λ (k : Book). AskedAs s program r.goal (answer k r.goal) x) holds.clauses a)
@@ -116,25 +118,25 @@ module _ (s : List ℕ) (r : Settled) (h : SettledAs (judge s) r) where
   told_is : length_told r.session ≡ told_of held_now
   told_is = rw (settled_holds (judge s) r h).0 refl
 
-  pub told_certified : (n : ℕ) → length_told r.session ≡ Bytes n → n ≡ length (certified s)
+  pub told_certified : (n : ℕ) → length_told r.session ≡ Ok n → n ≡ length (certified s)
   unfolding encode contents
   told_certified n e = go held_now (sym told_is ∙ e) bytes_are
     where
-      go : (x : Option Certificate) → told_of x ≡ Bytes n → bytes_in x ≡ sheet s → n ≡ length (certified s)
+      go : (x : Option Certificate) → told_of x ≡ Ok n → bytes_in x ≡ sheet s → n ≡ length (certified s)
       go none t b = let z : ◌≡◌ {A = ℕ} 0 1 = cc in absurd (omega arith)
       go (some x) t b =
           let size : length_of x ≡ n = cc in
           sym (bytes_counted x ∙ size) ∙ ap length (sym (certified_is s (bytes_of x) b (λ n. let z : ◌≡◌ {A = ℕ} 0 1 = cc in omega arith)))
 
-  pub untold_certified : (k : ℕ) → length_told r.session ≡ Refused k → printed s ≡ certified s
+  pub untold_certified : (k : Refusal) → length_told r.session ≡ Err k → printed s ≡ certified s
   unfolding certified
   untold_certified k e = go held_now (sym told_is ∙ e) bytes_are
     where
-      go : (x : Option Certificate) → told_of x ≡ Refused k → bytes_in x ≡ sheet s → printed s ≡ certified s
+      go : (x : Option Certificate) → told_of x ≡ Err k → bytes_in x ≡ sheet s → printed s ≡ certified s
       go none t b = ap (λ (l : List ℕ). or_else l (printed s)) b
       go (some x) t b = let z : ◌≡◌ {A = ℕ} 0 1 = cc in absurd (omega arith)
 
-module _ (s : List ℕ) (r : Settled) (h : SettledAs (judge s) r) (before after : List ℕ) (l : Length) (w : Written r.session before l after) where
+module _ (s : List ℕ) (r : Settled) (h : SettledAs (judge s) r) (before after : List ℕ) (l : Result ℕ Refusal) (w : Written r.session before l after) where
   written_as : WrittenAs (held_now s r h) before l after
   written_as = w.written (settled_holds (judge s) r h).0
 
@@ -144,29 +146,28 @@ module _ (s : List ℕ) (r : Settled) (h : SettledAs (judge s) r) (before after 
   -- ---- the sheet, or the line of the refusal
 
   -- By the answer of the writer: 9 exactly if there is no sheet.
-  answered : (x : Option Certificate) → WrittenAs x before l after → bytes_in x ≡ sheet s → (l ≡ Refused 9 → sheet s ≡ []) × ((l ≡ Refused 9 → ⊥) → sheet s ≡ [] → ⊥)
+  answered : (x : Option Certificate) → WrittenAs x before l after → bytes_in x ≡ sheet s → (l ≡ Err NoVerdict → sheet s ≡ []) × ((l ≡ Err NoVerdict → ⊥) → sheet s ≡ [] → ⊥)
   unfolding encode contents
   answered none a e = (λ _. sym e, λ d. absurd (d a.answer))
   answered (some x) a e = (λ n. absurd (other (leb (length (bytes_of x)) (length before)) (sym (answer_counted x before l after a) ∙ n)), λ d n. let z : ◌≡◌ {A = ℕ} 0 1 = cc in omega arith)
     where
-      other : (b : Bool) → cond b (Bytes (length (bytes_of x))) (Refused 10) ≡ Refused 9 → ⊥
+      other : (b : Bool) → cond b (Ok (length (bytes_of x))) (Err NoRoom) ≡ Err NoVerdict → ⊥
       other true n = let z : ◌≡◌ {A = ℕ} 0 1 = cc in omega arith
-      other false n = let z : ◌≡◌ {A = ℕ} 9 10 = cc in omega arith
+      other false n = let z : ◌≡◌ {A = ℕ} 0 1 = cc in omega arith
 
-  sheet_certified : (l ≡ Refused 9 → ⊥) → Gives (certified s) before after (size_of l)
+  sheet_certified : (l ≡ Err NoVerdict → ⊥) → Gives (certified s) before after (size_of l)
   sheet_certified d = rw (certified_is s (sheet s) refl ((answered (held_now s r h) written_as (bytes_are s r h)).1 d)) sheet_given
 
-  pub written_certified : (n : ℕ) → l ≡ Bytes n → Gives (certified s) before after n
+  pub written_certified : (n : ℕ) → l ≡ Ok n → Gives (certified s) before after n
   written_certified n e =
       subst (Gives (certified s) before after) (ap size_of e) (sheet_certified (λ d. let z : ◌≡◌ {A = ℕ} 0 1 = cc in omega arith))
 
-  pub unwritten_certified : (k : ℕ) → l ≡ Refused k → (k ≡ 9 → ⊥) → Gives (certified s) before after 0
+  pub unwritten_certified : (k : Refusal) → l ≡ Err k → (k ≡ NoVerdict → ⊥) → Gives (certified s) before after 0
   unwritten_certified k e d = subst (Gives (certified s) before after) (ap size_of e) (sheet_certified (λ n. d (cc)))
 
   -- No verdict: the writer left the output as it was, and the report is written.
-  pub refusal_certified : (k : ℕ) → l ≡ Refused k → k ≡ 9 → (exit : List ℕ) (n : ℕ) → Reported (report_of r) after exit n → Gives (certified s) before exit n
+  pub refusal_certified : l ≡ Err NoVerdict → (exit : List ℕ) (n : ℕ) → Reported (report_of r) after exit n → Gives (certified s) before exit n
   unfolding certified
-  refusal_certified k e nine exit n p =
-      let none : l ≡ Refused 9 = e ∙ ap Refused nine in
-      rw ((answered (held_now s r h) written_as (bytes_are s r h)).0 none)
-      (subst (λ (b : List ℕ). Gives (printed s) b exit n) (refused_unwritten r.session before l after w 9 none) (report_given s r h p))
+  refusal_certified e exit n p =
+      rw ((answered (held_now s r h) written_as (bytes_are s r h)).0 e)
+      (subst (λ (b : List ℕ). Gives (printed s) b exit n) (refused_unwritten r.session before l after w NoVerdict e) (report_given s r h p))

@@ -14,14 +14,13 @@ use Rattle.zestanchor.specs.Tasks.{or_else, certified, no_task, Done}
 pub done_as : (task k : ℕ) (input entry exit : List ℕ) (r : ℕ) → task ≡ k → Done k input entry exit r → Done task input entry exit r
 done_as task k input entry exit r e d = subst (λ (t : ℕ). Done t input entry exit r) (sym e) d
 
-pub nothing_done : (task : ℕ) (input entry : List ℕ) → (task ≡ 0 → ⊥) → (task ≡ 1 → ⊥) → (task ≡ 2 → ⊥) → (task ≡ 3 → ⊥) → (task ≡ 4 → ⊥)
-    → Done task input entry entry no_task
-nothing_done zero input entry a b c d e = absurd (a refl)
-nothing_done (suc zero) input entry a b c d e = absurd (b refl)
-nothing_done (suc (suc zero)) input entry a b c d e = absurd (c refl)
-nothing_done (suc (suc (suc zero))) input entry a b c d e = absurd (d refl)
-nothing_done (suc (suc (suc (suc zero)))) input entry a b c d e = absurd (e refl)
-nothing_done (suc (suc (suc (suc (suc task))))) input entry a b c d e = (refl, refl)
+pub nothing_done : (task : ℕ) (input entry : List ℕ) → 4 < task → Done task input entry entry no_task
+nothing_done zero input entry h = absurd (omega arith)
+nothing_done (suc zero) input entry h = absurd (omega arith)
+nothing_done (suc (suc zero)) input entry h = absurd (omega arith)
+nothing_done (suc (suc (suc zero))) input entry h = absurd (omega arith)
+nothing_done (suc (suc (suc (suc zero)))) input entry h = absurd (omega arith)
+nothing_done (suc (suc (suc (suc (suc task))))) input entry h = (refl, refl)
 
 -- ---- the length that task 1 gives
 

@@ -6,47 +6,61 @@ ghost use Rattle.syntax.specs.Judge.{judge};
 ghost use Rattle.clausify.specs.Calls.{SettledAs};
 ghost use Rattle.text.specs.Output.{Gives};
 ghost use Rattle.report.specs.Printed.{printed, sheet};
-ghost use Rattle.zestanchor.specs.Tasks.{certified, size_of, Done};
+ghost use Rattle.zestanchor.specs.Tasks.{TaskOf, certified, Done};
 
-use certify::Length;
 use clausify::Settled;
+use refusal::Refusal;
 
-// The report of a text; the sheet of its verdict or its refusal; the report of a checked sheet; how long what task 1 gives is; the
-// screen of a text.
-const SETTLE: u8 = 0;
+#[derive(Clone, Copy, Debug, PartialEq, Eq, Hash)]
+enum Task {
+    // The report of a text,
+    Settle,
+    // the sheet of its verdict or its refusal,
+    Certify,
+    // the report of a checked sheet,
+    Check,
+    // how long what `Certify` gives is,
+    Length,
+    // the screen of a text.
+    Screen,
+}
 
-const CERTIFY: u8 = 1;
+// A number that is no task's.
+#[derive(Clone, Copy, Debug, PartialEq, Eq, Hash)]
+struct NoTask;
 
-const CHECK: u8 = 2;
+impl TryFrom<u8> for Task {
+    type Error = NoTask;
 
-const LENGTH: u8 = 3;
+    ghost try_from_gives = { TaskOf };
 
-const SCREEN: u8 = 4;
+    fn try_from(number: u8) -> Result<Task, NoTask> {
+        match number {
+            0 => Ok(Task::Settle),
+            1 => Ok(Task::Certify),
+            2 => Ok(Task::Check),
+            3 => Ok(Task::Length),
+            4 => Ok(Task::Screen),
+            _ => Err(NoTask),
+        }
+    }
+}
 
 // What any other task returns.
-const NO_TASK: usize = 0xffff_ffff_ffff_ffff;
+const NO_TASK: usize = usize::MAX;
 
 // How many bytes of each output were written.
-#[derive(Clone, Copy)]
+#[derive(Clone, Copy, Debug, PartialEq, Eq)]
 pub struct Lengths {
     pub report: usize,
     pub sheet: usize,
-}
-
-fn size_of(length: Length) -> usize
-    ensures { result ≡ size_of length }
-{
-    match length {
-        Length::Bytes(n) => n,
-        Length::Refused(_) => 0,
-    }
 }
 
 // Settles a text and writes its report.
 fn settle(text: &[u8], report: &mut [u8]) -> usize
     ensures { Gives (printed text.now) report.old report.new result }
 {
-    report::report(clausify::settle(text), report)
+    report::report(&clausify::settle(text), report)
 }
 
 // Settles a text and writes its report and the sheet of its verdict; no byte of a sheet where there is no verdict.
@@ -56,23 +70,21 @@ pub fn settle_with_sheet(text: &[u8], report: &mut [u8], certificate: &mut [u8])
 {
     let settled = clausify::settle(text);
     Lengths {
-        report: report::report(settled, report),
-        sheet: size_of(certify::write(settled.session, certificate)),
+        report: report::report(&settled, report),
+        sheet: certify::write(&settled.session, certificate).unwrap_or(0),
     }
 }
 
 // The sheet of a verdict; without one the report, which is the line of the refusal.
-fn write_certified(settled: Settled, output: &mut [u8]) -> usize
-    ensures { (s : List ℕ) → SettledAs (judge s) settled → Gives (certified s) output.old output.new result }
+fn write_certified(settled: &Settled, output: &mut [u8]) -> usize
+    ensures { (s : List ℕ) → SettledAs (judge s) settled.now → Gives (certified s) output.old output.new result }
 {
-    match certify::write(settled.session, output) {
-        Length::Bytes(n) => n,
-        Length::Refused(number) => {
-            if number == 9 {
-                return report::report(settled, output);
-            }
-            0
-        }
+    match certify::write(&settled.session, output) {
+        Ok(n) => n,
+        Err(e) => match e {
+            Refusal::NoVerdict => report::report(settled, output),
+            _ => 0,
+        },
     }
 }
 
@@ -80,12 +92,9 @@ fn certified_length(text: &[u8]) -> usize
     ensures { result ≡ length (certified text.now) }
 {
     let settled = clausify::settle(text);
-    match certify::length_told(settled.session) {
-        Length::Bytes(n) => n,
-        Length::Refused(_) => {
-            let mut draft = [0u8; text::DRAFT];
-            report::report(settled, &mut draft)
-        }
+    match certify::length_told(&settled.session) {
+        Ok(n) => n,
+        Err(_) => report::report(&settled, &mut [0u8; text::DRAFT]),
     }
 }
 
@@ -93,20 +102,12 @@ fn certified_length(text: &[u8]) -> usize
 pub fn zestanchor(task: u8, input: &[u8], output: &mut [u8]) -> usize
     ensures { Done task input.now output.old output.new result }
 {
-    if task == SETTLE {
-        return settle(input, output);
+    match Task::try_from(task) {
+        Ok(Task::Settle) => settle(input, output),
+        Ok(Task::Certify) => write_certified(&clausify::settle(input), output),
+        Ok(Task::Check) => judgement::judge(input, 0, output),
+        Ok(Task::Length) => certified_length(input),
+        Ok(Task::Screen) => report::screenings::screen(input, output),
+        Err(NoTask) => NO_TASK,
     }
-    if task == CERTIFY {
-        return write_certified(clausify::settle(input), output);
-    }
-    if task == CHECK {
-        return judgement::judge(input, 0, output);
-    }
-    if task == LENGTH {
-        return certified_length(input);
-    }
-    if task == SCREEN {
-        return report::screenings::screen(input, output);
-    }
-    NO_TASK
 }

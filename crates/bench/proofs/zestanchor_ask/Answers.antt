@@ -4,10 +4,10 @@ use Rattle.atoms.specs.Words.{num}
 use Rattle.sat.specs.Answer.{answer_of}
 use Rattle.bench.proofs.zestanchor_ask.Goals as goal
 
-pub returns-in-Proved : goal.returns-in-Proved
-returns-in-Proved c =
-    (rw (← c.row.ensures) (sym c.ask.ensures ∙ ap answer_of c.in-Proved.is), refl)
+pub returns-in-None : goal.returns-in-None
+returns-in-None c =
+    (rw (← c.row.ensures) (sym c.ask.ensures ∙ ap answer_of c.in-None.is), refl)
 
-pub returns-in-Countered : goal.returns-in-Countered
-returns-in-Countered c =
-    (num c.in-Countered.m, rw (← c.row.ensures) (sym c.ask.ensures ∙ ap answer_of c.in-Countered.is), c.set_row.ensures)
+pub returns-in-Some : goal.returns-in-Some
+returns-in-Some c =
+    (num c.in-Some.m, rw (← c.row.ensures) (sym c.ask.ensures ∙ ap answer_of c.in-Some.is), c.set_row.ensures)

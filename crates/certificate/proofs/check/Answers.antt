@@ -1,27 +1,15 @@
 -- The layout, then the bodies.
-use mathlib.Core.Path.{ap, ◌∙◌}
-use Prim.Native.Nat.{ℕ}
-use Rattle.certificate.specs.Certificate.{refused}
-use Rattle.certificate.specs.Checked.{LayoutRead}
-use Rattle.certificate.specs.declared.layout.Layout.TheVariants.{Read}
-use Rattle.certificate.proofs.Judging.{unlaid, laid}
+use mathlib.Core.Path.{subst}
+use Rattle.std.proofs.lemmas.Result.{err_from_is_err_and}
+use Rattle.certificate.specs.Checked.{SheetRead}
+use Rattle.certificate.proofs.Judging.{unlaid, laid_sheet, fault_given}
 use Rattle.certificate.proofs.check.Goals as goal
 
--- The contents, where the layout is kept.
-found-check_bodies : (c : goal.After-check_bodies) → LayoutRead c.args.bytes.now (Read c.in-Read.k)
-found-check_bodies c = c.in-Read.ensures
+pub returns-in_err-sheet : goal.returns-in_err-sheet
+returns-in_err-sheet c =
+    let p = err_from_is_err_and c.from_residual.result c.from_residual.ensures.1 in
+    let none = c.in_err-sheet.ensures.ok_part in
+    rw (p.1, p.2, fault_given _ _ _ none c.in_err-sheet.ensures.value) (unlaid _ (subst (SheetRead _) none c.read.ensures))
 
--- The contents, where the layout is kept.
-found-in-read : (c : goal.In-Read) → LayoutRead c.args.bytes.now (Read c.in-Read.k)
-found-in-read c = c.in-Read.ensures
-
-pub check_bodies-requires : goal.check_bodies-requires
-check_bodies-requires c = (found-in-read c).size
-
-pub returns-in-Read : goal.returns-in-Read
-returns-in-Read c = c.check_bodies.ensures ∙ laid _ _ (found-check_bodies c)
-
-pub returns-in-Refused : goal.returns-in-Refused
-returns-in-Refused c =
-    let broken = c.in-Refused.ensures in
-    ap (λ (z : ℕ). refused z 0) broken.0 ∙ unlaid _ broken.1
+pub returns : goal.returns
+returns c = laid_sheet _ _ (subst (SheetRead _) c.in_ok-sheet.ensures.ok_part c.read.ensures) c.check_bodies.result c.check_bodies.ensures

@@ -15,14 +15,14 @@ use Rattle.certificate.proofs.wrong_place.Goals as goal
 abbrev place : List ℕ → Contents → Bool → Option ℕ
 place s k r = wrong_place (problem_by s k) (claim_in s (claim_start k.flats k.implications) r k.rows)
 
-pub returns-then-k : goal.returns-then-k
+pub returns-then-sheet : goal.returns-then-sheet
 unfolding claim_in
-returns-then-k c =
-    let given = c.args in
-    c.wrong_world.ensures ∙ ap (place given.bytes.now given.k) (sym c.if-k.true)
+returns-then-sheet c =
+    let sheet = c.args.sheet.now in
+    c.wrong_world.ensures ∙ ap (place sheet.bytes.now sheet.contents) (sym c.if-sheet.true)
 
-pub returns-else-k : goal.returns-else-k
+pub returns-else-sheet : goal.returns-else-sheet
 unfolding claim_in
-returns-else-k c =
-    let given = c.args in
-    c.wrong_step.ensures ∙ ap (place given.bytes.now given.k) (sym c.if-k.false)
+returns-else-sheet c =
+    let sheet = c.args.sheet.now in
+    c.wrong_step.ensures ∙ ap (place sheet.bytes.now sheet.contents) (sym c.if-sheet.false)

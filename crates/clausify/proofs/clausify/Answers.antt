@@ -1,39 +1,21 @@
 -- The text is refused, or its table is named and its clauses are written.
-use mathlib.Core.Path.{◌≡◌}
-use lib.ListN.{length}
-use Rattle.syntax.specs.Parts.{room}
-use Rattle.syntax.proofs.Reader.{read_as, refused_as}
 use Rattle.clausify.proofs.Texts.{read_nameable, root_row, read_clausified, refused_clausified}
 use borrow.Author.Rules.{rules}
 use Rattle.clausify.proofs.clausify.Goals as goal
 
-atoms_size : (c : goal.After-result-1) → length c.names_of-names.result.atoms ≡ room
-atoms_size c = search rules
-
 pub names_of-names-requires : goal.names_of-names-requires
-names_of-names-requires c =
-    let reading = c.read-reading in
-    ((read_as _ reading.result.outcome _ reading.ensures.answer _ c.in-Formula.is).sound, reading.ensures.counted)
+names_of-names-requires c = let read = c.in-Ok.ensures in (read.0.sound, read.1)
 
 pub session_of-requires : goal.session_of-requires
-session_of-requires c =
-    let reading = c.read-reading in
-    read_nameable _ _ _ (read_as _ reading.result.outcome _ reading.ensures.answer _ c.in-Formula.is) _ c.names_of-names.ensures
+session_of-requires c = read_nameable _ _ _ c.in-Ok.ensures.0 _ c.names_of-names.ensures
 
-pub bounds-names-root : goal.bounds-names-root
-bounds-names-root c =
-    let reading = c.read-reading in
-    root_row _ _ _ (read_as _ reading.result.outcome _ reading.ensures.answer _ c.in-Formula.is)
+pub bounds-names-from : goal.bounds-names-from
+bounds-names-from c = rw c.from.ensures (root_row _ _ _ c.in-Ok.ensures.0)
 
-pub returns-in-Refusal : goal.returns-in-Refusal
-returns-in-Refusal c =
-    let reading = c.read-reading in
-    let refused = refused_as _ reading.result.outcome _ reading.ensures.answer _ _ c.in-Refusal.is in
-    refused_clausified _ _ _ refused _ c.open-none.ensures.holds c.open-none.ensures.nothing
+pub returns-in-Err : goal.returns-in-Err
+returns-in-Err c = refused_clausified _ _ c.in-Err.ensures _ c.new.ensures.holds c.new.ensures.nothing
 
-pub returns-in-Formula : goal.returns-in-Formula
-returns-in-Formula c =
-    let reading = c.read-reading in
-    let read = read_as _ reading.result.outcome _ reading.ensures.answer _ c.in-Formula.is in
+pub returns-in-Ok : goal.returns-in-Ok
+returns-in-Ok c =
     let session = c.session_of.ensures in
-    read_clausified _ _ _ read _ c.names_of-names.ensures (atoms_size c) _ session.0 session.1
+    rw c.from.ensures (read_clausified _ _ _ c.in-Ok.ensures.0 _ c.names_of-names.ensures (search rules) _ session.0 session.1)

@@ -5,6 +5,3 @@ use Rattle.fork_table.proofs.implication.Given as goal
 
 abbrev pub invariant-loop-c : goal.invariant-loop-c
 invariant-loop-c l = number_with (is_implication l.a l.b) (suc l.c) ≡ implication l.a l.b
-
-abbrev pub decreases-loop-c : goal.decreases-loop-c
-decreases-loop-c l = l.c

@@ -8,13 +8,12 @@ use Rattle.fork_table.proofs.write_row.Goals as goal
 
 pub loop-b-init : goal.loop-b-init
 unfolding entries
-loop-b-init c = record { inside = omega arith; passed = nothing _ _ }
+loop-b-init c = nothing _
 
 pub loop-b-preserved : goal.loop-b-preserved
 unfolding ascii
-loop-b-preserved c =
-    record { inside = omega arith; passed = next_entry _ c.loop-b.b c.loop-b.invariant.passed c.write_entry-end.ensures }
+loop-b-preserved c = next_entry _ c.loop-b.b c.loop-b.invariant c.write_entry.ensures
 
 pub returns : goal.returns
 unfolding ascii
-returns c = row_end _ c.loop-b.b (omega arith) c.loop-b.invariant.passed c.write_entry.ensures
+returns c = row_end _ c.loop-b.b (omega arith) c.loop-b.invariant c.write_entry-2.ensures

@@ -7,10 +7,10 @@ use Rattle.fork_table.proofs.write_rows.Goals as goal
 
 pub loop-a-init : goal.loop-a-init
 unfolding rows
-loop-a-init c = record { inside = omega arith; passed = nothing _ _ }
+loop-a-init c = nothing _
 
 pub loop-a-preserved : goal.loop-a-preserved
-loop-a-preserved c = record { inside = omega arith; passed = next_row c.loop-a.a c.loop-a.invariant.passed c.write_row-end.ensures }
+loop-a-preserved c = next_row c.loop-a.a c.loop-a.invariant c.write_row.ensures
 
 pub returns : goal.returns
-returns c = table_end c.loop-a.a (omega arith) c.loop-a.invariant.passed
+returns c = table_end c.loop-a.a (omega arith) c.loop-a.invariant

@@ -1,5 +1,6 @@
--- The text begun is handed over.
-use mathlib.Core.Path.{refl, ap, ◌∙◌}
+-- The text is handed over.
+use Rattle.std.proofs.Common.{length, ap, ◌∙◌}
+use Rattle.prover.specs.Told.{told}
 use Rattle.prover.specs.declared.Work.{Work}
 use Rattle.text.proofs.Appending.{same_text, begun}
 use Rattle.report.specs.Report.{report_with}
@@ -7,6 +8,6 @@ use Rattle.report.proofs.report.Goals as goal
 
 pub returns : goal.returns
 returns c =
-    let settled = c.args.settled in
-    let w = same_text (ap (λ (w : Work). report_with w.questions settled.verdict settled.session) c.work_of-questions.ensures) c.write-n.ensures in
-    c.hand_over.ensures _ (begun w) (w.size ∙ refl)
+    let settled = c.args.settled.now in
+    let written = same_text (ap (λ (w : Work). report_with w.questions (told settled.verdict) settled.session) c.work_of-questions.ensures) c.write.ensures in
+    c.hand_over.ensures _ (begun c.new-draft.ensures.empty written) (written.size ∙ ap length c.new-draft.ensures.same)

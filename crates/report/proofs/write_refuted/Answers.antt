@@ -9,5 +9,5 @@ use Rattle.report.proofs.write_refuted.Goals as goal
 pub returns : goal.returns
 unfolding refuted_report ascii
 returns c =
-    let s = c.args.s.steps in
-    rw (tabulate_length (step_row s) s.count) (both (both c.word-first.ensures c.figures-second.ensures) c.worlds.ensures)
+    let s = c.args.s.now.steps in
+    rw (tabulate_length (step_row s) s.count) (both (both c.word.ensures c.figures.ensures) c.worlds.ensures)

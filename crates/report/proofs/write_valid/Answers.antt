@@ -9,5 +9,5 @@ use Rattle.report.proofs.write_valid.Goals as goal
 pub returns : goal.returns
 unfolding valid_report ascii
 returns c =
-    let s = c.args.s.steps in
-    rw (tabulate_length (step_row s) s.count) (both (both c.word-first.ensures c.figures-second.ensures) c.steps.ensures)
+    let s = c.args.s.now.steps in
+    rw (tabulate_length (step_row s) s.count) (both (both c.word.ensures c.figures.ensures) c.steps.ensures)

@@ -17,7 +17,7 @@ fn raise(notes: &mut [u16], atoms: AtomSet) {
     let mut rest = atoms;
     while !rest.is_empty() {
         let x = rest.highest();
-        let i = ACTIVITIES + x.highest_number() as usize;
+        let i = ACTIVITIES + usize::from(x.highest_number());
         let a = number(notes, i);
         set_number(notes, i, risen(a));
         rest = rest.without(x);
@@ -25,9 +25,7 @@ fn raise(notes: &mut [u16], atoms: AtomSet) {
 }
 
 fn halve(notes: &mut [u16]) {
-    let mut i = NOTES;
-    while ACTIVITIES < i {
-        i -= 1;
+    for i in ACTIVITIES..NOTES {
         let a = number(notes, i);
         set_number(notes, i, a / 2);
     }
@@ -48,7 +46,8 @@ pub fn busiest(notes: &[u16], atoms: AtomSet) -> u8 {
     while !rest.is_empty() {
         let x = rest.highest();
         let i = x.highest_number();
-        if number(notes, ACTIVITIES + best as usize) <= number(notes, ACTIVITIES + i as usize) {
+        let most = number(notes, ACTIVITIES + usize::from(best));
+        if most <= number(notes, ACTIVITIES + usize::from(i)) {
             best = i;
         }
         rest = rest.without(x);

@@ -1,7 +1,9 @@
 // Room for further rows: of the learned rows go those longer than the average, and those that a row learned soon after is part of.
 ghost use Rattle.std.specs.Prelude.{◌<◌, ◌≤◌};
-ghost use Rattle.sat.specs.Learning.{Longer, Passes};
+ghost use Rattle.sat.specs.Learning.{Learned, Passes};
 
+use super::super::clauses::Clause;
+use super::table::Table;
 use atoms::AtomSet;
 
 // How many rows after a row are looked at.
@@ -12,91 +14,70 @@ fn size(s: AtomSet) -> u64 {
     let mut n: u64 = 0;
     let mut rest = s;
     while !rest.is_empty() {
-        n = std::num::wrapping_add_u64(n, 1);
+        n = n.wrapping_add(1);
         rest = rest.without_lowest();
     }
     n
 }
 
-// How many literals row c has.
-fn literals<'a>(left: &'a [u64], right: &'a [u64], c: usize) -> u64 {
-    std::num::wrapping_add_u64(size(atoms::row(left, c)), size(atoms::row(right, c)))
+// How many literals a clause has.
+fn literals(k: Clause) -> u64 {
+    size(k.left).wrapping_add(size(k.right))
 }
 
-// How many literals a row from `own` on has on average.
-fn average<'a>(left: &'a [u64], right: &'a [u64], own: usize, total: usize) -> u64 {
-    if total <= own {
+// How many literals a learned row has on average.
+fn average(t: &Table) -> u64 {
+    if t.total <= t.own {
         return 0;
     }
     let mut sum: u64 = 0;
-    let mut c = own;
-    while c < total {
-        sum = std::num::wrapping_add_u64(sum, literals(left, right, c));
-        c += 1;
+    for c in t.own..t.total {
+        sum = sum.wrapping_add(literals(t.row(c)));
     }
-    sum / (total - own) as u64
+    sum / (t.total - t.own) as u64
 }
 
 // Whether a row soon after row c is part of it.
-fn includes_later<'a>(left: &'a [u64], right: &'a [u64], c: usize, total: usize) -> bool {
-    if total <= c {
+fn includes_later(t: &Table, c: usize) -> bool {
+    if t.total <= c {
         return false;
     }
-    let l = atoms::row(left, c);
-    let r = atoms::row(right, c);
-    let end = if SOON < total - c { c + SOON } else { total };
-    let mut d = c + 1;
-    while d < end {
-        if atoms::row(left, d).within(l) {
-            if atoms::row(right, d).within(r) {
-                return true;
-            }
+    let k = t.row(c);
+    let end = c + SOON.min(t.total - c);
+    for d in c + 1..end {
+        let later = t.row(d);
+        if later.left.within(k.left) && later.right.within(k.right) {
+            return true;
         }
-        d += 1;
     }
     false
 }
 
-// Whether row c is worth its room.
-fn worth<'a>(left: &'a [u64], right: &'a [u64], c: usize, total: usize, most: u64) -> bool {
-    if most < literals(left, right, c) {
-        return false;
-    }
-    !includes_later(left, right, c, total)
-}
-
-// Moves row c down to row `to` where it is worth it; where the next one is to go is the result.
-fn pass(left: &mut [u64], right: &mut [u64], c: usize, total: usize, most: u64, to: usize) -> usize
-    requires { (to ≤ c) × (c < total) }
-    ensures { Passes left.old right.old total to c left.new right.new result }
+// Moves row c down to row `to` where it is worth its room; where the next one is to go is the result.
+fn pass(t: &mut Table, c: usize, most: u64, to: usize) -> usize
+    requires { (to ≤ c) × (c < t.old.total) }
+    ensures { Passes t.old t.new to c result }
 {
-    if !worth(left, right, c, total, most) {
+    let k = t.row(c);
+    if most < literals(k) || includes_later(t, c) {
         return to;
     }
-    let l = atoms::row(left, c);
-    let r = atoms::row(right, c);
-    atoms::set_row(left, to, l);
-    atoms::set_row(right, to, r);
+    atoms::set_row(&mut t.left, to, k.left);
+    atoms::set_row(&mut t.right, to, k.right);
     to + 1
 }
 
-// Moves the rows worth it down to `own` and up; the number of rows is then the result.
-pub fn shorten(left: &mut [u64], right: &mut [u64], own: usize, total: usize) -> usize
-    requires { own ≤ total }
-    ensures { Longer own left.old right.old total left.new right.new result }
+// Moves the rows worth it down behind the clauses of the question.
+pub fn shorten(t: &mut Table)
+    ensures { Learned t.old t.new }
 {
-    if atoms::rows(left) < total {
-        return own;
+    let total = t.total;
+    let mut to = t.own;
+    if total <= atoms::rows(&t.left) && total <= atoms::rows(&t.right) {
+        let most = average(t);
+        for c in t.own..total {
+            to = pass(t, c, most, to);
+        }
     }
-    if atoms::rows(right) < total {
-        return own;
-    }
-    let most = average(left, right, own, total);
-    let mut to = own;
-    let mut c = own;
-    while c < total {
-        to = pass(left, right, c, total, most, to);
-        c += 1;
-    }
-    to
+    t.total = to;
 }

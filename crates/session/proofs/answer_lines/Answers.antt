@@ -1,51 +1,68 @@
--- Each line gathered comes further in the piece; its answer stands behind those held.
-use Rattle.std.proofs.Common.{◌-◌, ◌<◌, arith, length, take}
+-- Each line gathered leaves less of the piece; its answer stands behind those held.
+use Rattle.std.proofs.Common.{◌-◌, ◌≤◌, sym, ◌∙◌, arith, ap, length, take}
+use Rattle.std.specs.Prelude.{option_copied}
+use Rattle.std.proofs.lemmas.Bool.Decides.{Decides-eqb}
 use borrow.Rule.Slice.PartMut.{post_of}
-use Rattle.script.proofs.Leading.{prints_on, prints_answered}
+use Rattle.script.proofs.Leading.{prints_on, prints_answered, less_left}
 use Rattle.session.proofs.Holding.{held_inside, held_behind, held_length}
 use Rattle.session.proofs.answer_lines.Goals as goal
 
+pub returns-in_default : goal.returns-in_default
+returns-in_default c =
+    let l = c.loop-line in
+    record {
+      further = λ h. h;
+      fits = omega arith;
+      prints = prints_on (take l.held l.output) c.args.piece.now _ l.invariant.prints c.gather.ensures (ap option_copied c.in_default.is);
+    }
+
 pub overflow_add-held : goal.overflow_add-held
 overflow_add-held c =
-    let l = c.loop-waits in
-    let answered = c.answer_line-answer in
-    let size = held_length l.output l.held _ l.invariant.fits answered.auto.output in
-    omega (arith, held_inside l.output l.held _ answered.ensures l.invariant.fits _ answered.auto.output size)
+    let l = c.loop-line in
+    let answered = c.answer_line-held in
+    let fits : l.held ≤ length l.output = omega arith in
+    let size = held_length l.output l.held _ fits answered.auto.output in
+    omega (arith, held_inside l.output l.held _ answered.ensures fits _ answered.auto.output size)
 
 pub overflow_sub-output : goal.overflow_sub-output
 overflow_sub-output c =
-    let l = c.loop-waits in
-    let answered = c.answer_line-answer in
-    let size = held_length l.output l.held _ l.invariant.fits answered.auto.output in
-    omega (arith, held_inside l.output l.held _ answered.ensures l.invariant.fits _ answered.auto.output size)
+    let l = c.loop-line in
+    let answered = c.answer_line-held in
+    let fits : l.held ≤ length l.output = omega arith in
+    let size = held_length l.output l.held _ fits answered.auto.output in
+    omega (arith, held_inside l.output l.held _ answered.ensures fits _ answered.auto.output size)
 
-pub loop-waits-preserved-then-gathered : goal.loop-waits-preserved-then-gathered
-loop-waits-preserved-then-gathered c =
-    let l = c.loop-waits in
-    let further : l.at < c.gather-gathered.result.at = c.gather-gathered.ensures.further c.if-at-piece.true in
-    let room = l.invariant.room c.loop-waits-test.true in
-    let answered = c.answer_line-answer in
-    let size = held_length l.output l.held _ l.invariant.fits answered.auto.output in
+pub returns-then-not-can_wait : goal.returns-then-not-can_wait
+returns-then-not-can_wait c =
+    let l = c.loop-line in
+    let next = ap option_copied c.in-Some.is in
+    let answered = c.answer_line-held in
+    let fits : l.held ≤ length l.output = omega arith in
+    let size = held_length l.output l.held _ fits answered.auto.output in
     record {
-      inside = omega arith;
-      since = omega (arith, l.invariant.since, further);
-      further = λ e. omega (arith, l.invariant.since, further);
-      fits = held_inside l.output l.held _ answered.ensures l.invariant.fits _ answered.auto.output size;
-      room = λ e. omega (arith, c.can_wait-waits.ensures e, held_inside l.output l.held _ answered.ensures l.invariant.fits _ answered.auto.output size);
-      prints = prints_answered (take l.held l.output) c.args.piece.now c.args.from l.at l.invariant.prints _ c.gather-gathered.ensures _ c.if-gathered.true
-          (omega (arith, room)) answered.ensures c.number_after-number.ensures _
-          (held_behind l.output l.held _ answered.ensures l.invariant.fits (post_of l.held (length l.output - l.held) l.output));
+      further = λ h. omega (arith, less_left c.gather.ensures next);
+      fits = held_inside l.output l.held _ answered.ensures fits _ answered.auto.output size;
+      prints = prints_answered (take l.held l.output) c.args.piece.now _ l.invariant.prints c.gather.ensures _ next
+          (omega arith) answered.ensures c.number_after-script.ensures _
+          (held_behind l.output l.held _ answered.ensures fits (post_of l.held (length l.output - l.held) l.output));
     }
 
-pub loop-waits-preserved : goal.loop-waits-preserved
-loop-waits-preserved c =
-    let l = c.loop-waits in
-    let further : l.at < c.gather-gathered.result.at = c.gather-gathered.ensures.further c.if-at-piece.true in
+pub loop-line-preserved : goal.loop-line-preserved
+loop-line-preserved c =
+    let l = c.loop-line in
+    let next = ap option_copied c.in-Some.is in
+    let answered = c.answer_line-held in
+    let fits : l.held ≤ length l.output = omega arith in
+    let size = held_length l.output l.held _ fits answered.auto.output in
     record {
-      inside = omega arith;
-      since = omega (arith, l.invariant.since, further);
-      further = λ e. omega (arith, l.invariant.since, further);
-      fits = omega arith;
-      room = l.invariant.room;
-      prints = prints_on (take l.held l.output) c.args.piece.now c.args.from l.at l.invariant.prints _ c.gather-gathered.ensures c.if-gathered.false;
+      since = omega (arith, less_left c.gather.ensures next);
+      room = omega (arith, c.can_wait.ensures c.if-not-can_wait.false, held_inside l.output l.held _ answered.ensures fits _ answered.auto.output size);
+      prints = prints_answered (take l.held l.output) c.args.piece.now _ l.invariant.prints c.gather.ensures _ next
+          (omega arith) answered.ensures c.number_after-script.ensures _
+          (held_behind l.output l.held _ answered.ensures fits (post_of l.held (length l.output - l.held) l.output));
     }
+
+pub returns : goal.returns
+returns c =
+    let empty = (Decides-eqb _ _).0 (sym c.is_empty.ensures ∙ c.loop-line-test.false) in
+    record { further = λ h. omega (arith, empty); fits = omega arith; prints = c.loop-line.invariant.prints }

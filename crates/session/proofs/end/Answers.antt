@@ -4,9 +4,9 @@ use Rattle.script.proofs.Performing.{answer_inside}
 use Rattle.session.proofs.end.Goals as goal
 
 pub slice_bounds-write-end : goal.slice_bounds-write-end
-slice_bounds-write-end g c = omega (arith, answer_inside _ c.answer_line-last.ensures)
+slice_bounds-write-end g c = omega (arith, answer_inside _ c.answer_line-n.ensures)
 
 pub slice_bounds-write-end-2 : goal.slice_bounds-write-end-2
 slice_bounds-write-end-2 g c =
-    let inside = answer_inside _ c.answer_line-last.ensures in
+    let inside = answer_inside _ c.answer_line-n.ensures in
     simp length-take (omega (arith, inside))

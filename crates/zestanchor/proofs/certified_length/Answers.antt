@@ -6,12 +6,11 @@ use Rattle.zestanchor.proofs.Sheet.{told_certified, untold_certified}
 use Rattle.zestanchor.proofs.Tasks.{printed_size}
 use Rattle.zestanchor.proofs.certified_length.Goals as goal
 
-pub returns-in-Bytes : goal.returns-in-Bytes
-returns-in-Bytes c =
-    told_certified _ _ c.settle-settled.ensures _ (sym c.length_told.ensures ∙ c.in-Bytes.is)
+pub returns-in-Ok : goal.returns-in-Ok
+returns-in-Ok c = told_certified _ _ c.settle-settled.ensures _ (sym c.length_told.ensures ∙ c.in-Ok.is)
 
-pub returns-in-Refused : goal.returns-in-Refused
-returns-in-Refused c =
+pub returns-in-Err : goal.returns-in-Err
+returns-in-Err c =
     let settled = c.settle-settled.ensures in
-    let refused = sym c.length_told.ensures ∙ c.in-Refused.is in
+    let refused = sym c.length_told.ensures ∙ c.in-Err.is in
     printed_size _ _ _ _ refl (report_given _ _ settled c.report.ensures) ∙ ap length (untold_certified _ _ settled _ refused)

@@ -9,5 +9,5 @@ pub returns : goal.returns
 returns c =
     let given = sheet_given _ c.settle-settled.result c.settle-settled.ensures _ _ _ c.write.ensures in (
       report_given _ c.settle-settled.result c.settle-settled.ensures c.report.ensures,
-      subst (Gives _ _ _) (sym c.size_of.ensures) given,
+      subst (Gives _ _ _) (sym c.unwrap_or.ensures) given,
     )

@@ -1,20 +1,16 @@
--- The machine's test whether there is room for a further digit.
-use borrow.Author.Tests.{lt-ltb, le-ltb}
-use mathlib.Core.Path.{◌≡◌, refl, sym}
-use Prim.Native.Nat.{ℕ, ◌+◌, ◌*◌, ◌^◌}
 use native.Mathlib.Omega.{arith}
 use Rattle.atoms.specs.Sets.{limit}
 use Rattle.atoms.specs.Words.{num}
 use Rattle.atoms.proofs.AtomSet.with_digit.Goals as goal
 
-pub returns-then-last-self : goal.returns-then-last-self
+pub returns-in_err-checked_mul : goal.returns-in_err-checked_mul
 unfolding num limit
-returns-then-last-self c =
-    let a = c.args in
-    (sym (le-ltb (10 * a.self.bits + a.digit) (2 ^ 64) (omega arith)), λ e. let z : ◌≡◌ {A = ℕ} 0 1 = cc in absurd (omega arith))
+returns-in_err-checked_mul c = grind (arith, c.in_err-checked_mul.ensures, c.from_residual.ensures)
 
-pub returns-else-last-self : goal.returns-else-last-self
+pub returns-in_err-bits : goal.returns-in_err-bits
 unfolding num limit
-returns-else-last-self c =
-    let a = c.args in
-    (sym (lt-ltb (10 * a.self.bits + a.digit) (2 ^ 64) (omega arith)), λ e. refl)
+returns-in_err-bits c = grind (arith, c.in_ok-checked_mul.ensures, c.from.ensures, c.in_err-bits.ensures, c.from_residual-in_err-bits.ensures)
+
+pub returns : goal.returns
+unfolding num limit
+returns c = grind (arith, c.in_ok-checked_mul.ensures, c.from.ensures, c.in_ok-bits.ensures)

@@ -1,16 +1,17 @@
-use mathlib.Core.Path.{◌≡◌, sym, ap, ◌∙◌, subst}
+use mathlib.Core.Path.{sym, ap, ◌∙◌, subst}
 use native.Mathlib.Omega.{arith}
 use native.Mathlib.Nat.{one-le-pow}
 use Prim.Native.Nat.{ℕ, ◌-◌, ◌^◌, ◌<◌, min}
 use Rattle.atoms.proofs.Bytes.{upper, upper_none, upper_next, upper_all, fits_next, fits_word}
 use Rattle.atoms.proofs.little_endian.number.Goals as goal
-use Rattle.atoms.proofs.little_endian.number.Goals.{else-i-gt8, then-i-gt8}
 
 pub loop-i-init : goal.loop-i-init
 loop-i-init c =
-    let s = c.args in
-    let e : c.if-i-gt8.i ≡ min s.width 8 = elim c.if-i-gt8.branch [ then-i-gt8 w ↦ omega arith | else-i-gt8 w ↦ omega arith ] in
-    (omega arith, sym (ap (upper s.bytes.now s.at (min s.width 8)) e ∙ upper_none s.bytes.now s.at (min s.width 8)), one-le-pow (min s.width 8 - c.if-i-gt8.i) 256 (omega arith))
+    let s = c.args in (
+      omega (arith, c.min-i.ensures),
+      sym (ap (upper s.bytes.now s.at (min s.width 8)) c.min-i.ensures ∙ upper_none s.bytes.now s.at (min s.width 8)),
+      one-le-pow (min s.width 8 - c.min-i.result) 256 (omega arith),
+    )
 
 pub overflow_mul-sum : goal.overflow_mul-sum
 overflow_mul-sum c =
@@ -21,9 +22,6 @@ pub overflow_add-sum : goal.overflow_add-sum
 overflow_add-sum c =
     let w = min c.args.width 8 in
     record { fits = fits_word w (c.loop-i.i - 1) _ (omega arith) (fits_next w c.loop-i.i c.loop-i.sum _ (omega arith) c.loop-i.invariant.0 c.loop-i.invariant.2 c.byte.ensures.1) }
-
-pub loop-i-smaller : goal.loop-i-smaller
-loop-i-smaller c = omega arith
 
 pub loop-i-preserved : goal.loop-i-preserved
 loop-i-preserved c =

@@ -6,6 +6,3 @@ use Rattle.atoms.proofs.little_endian.number.Given as goal
 
 abbrev pub invariant-loop-i : goal.invariant-loop-i
 invariant-loop-i l = (l.i ≤ min l.width 8) × (l.sum ≡ upper l.bytes l.at (min l.width 8) l.i) × (l.sum < 256 ^ (min l.width 8 - l.i))
-
-abbrev pub decreases-loop-i : goal.decreases-loop-i
-decreases-loop-i l = l.i

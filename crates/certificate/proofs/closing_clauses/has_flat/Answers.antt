@@ -1,45 +1,19 @@
 use native.Mathlib.Omega.{arith}
-use mathlib.Core.Path.{refl, sym, ap, ◌∙◌}
-use Rattle.ipl.specs.Lists.{any, tabulate}
+use mathlib.Core.Path.{refl, ◌∙◌}
+use Rattle.std.proofs.Common.{rules, tests}
+use Rattle.std.proofs.lemmas.Iterator.{YieldsList-from_range}
+use Rattle.std.proofs.lemmas.Iterator.Search.{any_from_yields_List}
+use Prim.Native.Nat.{◌+◌, ◌*◌}
+use Rattle.certificate.specs.Format.{flat_bytes, flat_start}
+use Rattle.certificate.specs.Layout.{flat_from}
+use Rattle.ipl.specs.Clause.{same_flat}
 use Rattle.atoms.specs.Words.{num}
-use Rattle.ipl.proofs.Lists.{any_next, any_found, any_end}
+use Rattle.certificate.proofs.Chains.{any_rows}
 use Rattle.certificate.proofs.closing_clauses.has_flat.Goals as goal
-use Rattle.certificate.proofs.closing_clauses.has_flat.Invariants.{row, same_as}
-
-pub loop-i-init : goal.loop-i-init
-unfolding any tabulate
-loop-i-init c = (omega arith, refl)
-
-pub overflow_mul-i : goal.overflow_mul-i
-overflow_mul-i c = omega arith
-
-pub overflow_add-i : goal.overflow_add-i
-overflow_add-i c = omega arith
-
-pub flat_from-requires : goal.flat_from-requires
-flat_from-requires c = omega arith
-
-pub returns-then-is_flat : goal.returns-then-is_flat
-returns-then-is_flat c =
-    let given = c.args in
-    sym (any_found (same_as (num given.left) (num given.right)) (row given.bytes.now) c.loop-i.i given.count (omega arith)
-    (ap (same_as (num given.left) (num given.right)) (sym c.flat_from.ensures) ∙ sym c.is_flat.ensures ∙ c.if-is_flat.true))
-
-pub overflow_add-i-in-loop-i : goal.overflow_add-i-in-loop-i
-overflow_add-i-in-loop-i c = omega arith
-
-pub loop-i-smaller : goal.loop-i-smaller
-loop-i-smaller c = omega arith
-
-pub loop-i-preserved : goal.loop-i-preserved
-loop-i-preserved c =
-    let given = c.args in (
-      omega arith,
-      any_next (same_as (num given.left) (num given.right)) (row given.bytes.now) c.loop-i.i c.loop-i.invariant.1
-          (ap (same_as (num given.left) (num given.right)) (sym c.flat_from.ensures) ∙ sym c.is_flat.ensures ∙ c.if-is_flat.false),
-    )
 
 pub returns : goal.returns
 returns c =
-    let given = c.args in
-    any_end (same_as (num given.left) (num given.right)) (row given.bytes.now) c.loop-i.i given.count c.loop-i.invariant.0 (omega arith) c.loop-i.invariant.1
+    let s = c.args.sheet.now.bytes.now in
+    let k = c.args.sheet.now.contents in
+    any_from_yields_List (λ i. same_flat (record { left = num c.args.left; right = num c.args.right }) (flat_from s (flat_start + flat_bytes * i))) _ _ c.any.result c.any.ensures.ran (YieldsList-from_range 0 k.flats k.flats refl (omega arith)) (λ x b q h. search (rules, tests))
+    ∙ any_rows (same_flat (record { left = num c.args.left; right = num c.args.right })) (λ i. flat_from s (flat_start + flat_bytes * i)) k.flats

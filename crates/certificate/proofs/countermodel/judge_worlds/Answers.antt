@@ -1,29 +1,15 @@
-use native.Mathlib.Omega.{arith}
-use borrow.Author.Count.{below_more}
-use mathlib.Core.Path.{sym, ◌∙◌}
+use Rattle.std.proofs.Common.{◌≡◌, rules, tests, true, false}
+use Rattle.std.proofs.lemmas.Iterator.{first_from_Range}
+use Rattle.certificate.specs.Judge.{world_right}
+use Rattle.certificate.specs.Checked.{problem_by, worlds_by}
 use Rattle.certificate.proofs.Tables.{worlds_length}
-use Rattle.certificate.proofs.FirstWrong.{world_wrong, worlds_right}
+use Rattle.certificate.proofs.FirstWrong.{world_found}
 use Rattle.certificate.proofs.countermodel.judge_worlds.Goals as goal
 
-pub loop-i-init : goal.loop-i-init
-loop-i-init c = (omega arith, λ j l. absurd (omega arith))
-
-pub is_right-requires : goal.is_right-requires
-is_right-requires c = (c.requires, omega arith)
-
-pub returns-then-not-is_right : goal.returns-then-not-is_right
-returns-then-not-is_right c =
-    world_wrong _ _ _ (worlds_length _ _ _) c.loop-i.i (omega arith) c.loop-i.invariant.1 (sym c.is_right.ensures ∙ c.if-not-is_right.true)
-
-pub overflow_add-i : goal.overflow_add-i
-overflow_add-i c = omega arith
-
-pub loop-i-smaller : goal.loop-i-smaller
-loop-i-smaller c = omega arith
-
-pub loop-i-preserved : goal.loop-i-preserved
-loop-i-preserved c =
-    (omega arith, below_more _ c.loop-i.i c.loop-i.invariant.1 (sym c.is_right.ensures ∙ c.if-not-is_right.false))
-
 pub returns : goal.returns
-returns c = worlds_right _ _ _ (worlds_length _ _ _) c.loop-i.i (omega arith) c.loop-i.invariant.1
+returns c =
+    let s = c.args.sheet.now.bytes.now in
+    let k = c.args.sheet.now.contents in
+    let right = world_right (problem_by s k) (worlds_by s k) in
+    world_found _ _ k.rows (worlds_length _ _ _) c.find.result
+    (first_from_Range _ _ _ c.find.result (λ i. right i ≡ false) (λ i. right i ≡ true) c.find.ensures.ran (λ x q h. search (rules, tests)) (λ x q h. search (rules, tests)))

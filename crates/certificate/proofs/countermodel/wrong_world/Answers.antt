@@ -1,22 +1,13 @@
 -- The tables hold the flat clauses.
 use native.Mathlib.Omega.{arith}
 use mathlib.Core.Path.{refl}
-use Prim.Native.Nat.{◌+◌}
 use Rattle.ipl.specs.Range.{flat_table}
-use Rattle.certificate.specs.Format.{set_bytes, flat_start}
-use Rattle.certificate.proofs.Judging.{flats_fit, column_there, worlds_ready}
+use Rattle.certificate.proofs.Judging.{flats_fit, worlds_ready}
 use Rattle.certificate.proofs.countermodel.wrong_world.Goals as goal
 
-pub load_column-requires : goal.load_column-requires
-load_column-requires c =
-    let ranged = c.requires.0 in
-    (column_there _ _ ranged flat_start (omega arith), flats_fit _ _ ranged _ flat_table refl (omega arith))
-
-pub load_column-requires-2 : goal.load_column-requires-2
-load_column-requires-2 c =
-    let ranged = c.requires.0 in
-    (column_there _ _ ranged (flat_start + set_bytes) (omega arith), flats_fit _ _ ranged _ flat_table refl (omega arith))
+pub load_flats-requires : goal.load_flats-requires
+load_flats-requires c =
+    let fits = flats_fit _ _ c.requires.0 _ flat_table refl (omega arith) in (fits, fits)
 
 pub judge_worlds-requires : goal.judge_worlds-requires
-judge_worlds-requires c =
-    worlds_ready _ _ c.requires.0 _ _ _ _ c.load_column.ensures c.load_column-2.ensures c.requires.1
+judge_worlds-requires c = worlds_ready _ _ c.requires.0 _ _ _ _ c.load_flats.ensures c.requires.1

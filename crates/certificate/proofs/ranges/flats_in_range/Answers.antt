@@ -1,45 +1,18 @@
 use native.Mathlib.Omega.{arith}
-use mathlib.Core.Path.{refl, sym, ap, ◌∙◌}
-use Rattle.ipl.specs.Lists.{all, tabulate}
+use mathlib.Core.Path.{refl, ◌∙◌}
+use Rattle.std.proofs.Common.{rules, tests}
+use Rattle.std.proofs.lemmas.Iterator.{YieldsList-from_range}
+use Rattle.std.proofs.lemmas.Iterator.Search.{all_from_yields_List}
+use Prim.Native.Nat.{◌+◌, ◌*◌}
+use Rattle.certificate.specs.Format.{flat_bytes, flat_start}
+use Rattle.certificate.specs.Layout.{flat_from}
 use Rattle.ipl.specs.Range.{flat_in_range}
-use Rattle.ipl.proofs.Lists.{all_next, all_fails, all_end}
+use Rattle.certificate.proofs.Chains.{all_rows}
 use Rattle.certificate.proofs.ranges.flats_in_range.Goals as goal
-use Rattle.certificate.proofs.ranges.flats_in_range.Invariants.{row}
-
-pub loop-i-init : goal.loop-i-init
-unfolding all tabulate
-loop-i-init c = (omega arith, refl)
-
-pub overflow_mul-i : goal.overflow_mul-i
-overflow_mul-i c = omega arith
-
-pub overflow_add-i : goal.overflow_add-i
-overflow_add-i c = omega arith
-
-pub flat_from-f-requires : goal.flat_from-f-requires
-flat_from-f-requires c = omega arith
-
-pub returns-then-not-flat_in_range : goal.returns-then-not-flat_in_range
-returns-then-not-flat_in_range c =
-    let given = c.args in
-    sym (all_fails (flat_in_range given.n) (row given.bytes.now) c.loop-i.i given.count (omega arith)
-    (ap (flat_in_range given.n) (sym c.flat_from-f.ensures) ∙ sym c.flat_in_range.ensures ∙ c.if-not-flat_in_range.true))
-
-pub overflow_add-i-in-loop-i : goal.overflow_add-i-in-loop-i
-overflow_add-i-in-loop-i c = omega arith
-
-pub loop-i-smaller : goal.loop-i-smaller
-loop-i-smaller c = omega arith
-
-pub loop-i-preserved : goal.loop-i-preserved
-loop-i-preserved c =
-    let given = c.args in (
-      omega arith,
-      all_next (flat_in_range given.n) (row given.bytes.now) c.loop-i.i c.loop-i.invariant.1
-          (ap (flat_in_range given.n) (sym c.flat_from-f.ensures) ∙ sym c.flat_in_range.ensures ∙ c.if-not-flat_in_range.false),
-    )
 
 pub returns : goal.returns
 returns c =
-    let given = c.args in
-    all_end (flat_in_range given.n) (row given.bytes.now) c.loop-i.i given.count c.loop-i.invariant.0 (omega arith) c.loop-i.invariant.1
+    let s = c.args.sheet.now.bytes.now in
+    let k = c.args.sheet.now.contents in
+    all_from_yields_List (λ i. flat_in_range c.args.n (flat_from s (flat_start + flat_bytes * i))) _ _ c.all.result c.all.ensures.ran (YieldsList-from_range 0 k.flats k.flats refl (omega arith)) (λ x b q h. search (rules, tests))
+    ∙ all_rows (flat_in_range c.args.n) (λ i. flat_from s (flat_start + flat_bytes * i)) k.flats

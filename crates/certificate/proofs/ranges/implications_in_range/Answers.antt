@@ -1,45 +1,18 @@
 use native.Mathlib.Omega.{arith}
-use mathlib.Core.Path.{refl, sym, ap, ◌∙◌}
-use Rattle.ipl.specs.Lists.{all, tabulate}
+use mathlib.Core.Path.{refl, ◌∙◌}
+use Rattle.std.proofs.Common.{rules, tests}
+use Rattle.std.proofs.lemmas.Iterator.{YieldsList-from_range}
+use Rattle.std.proofs.lemmas.Iterator.Search.{all_from_yields_List}
+use Prim.Native.Nat.{◌+◌, ◌*◌}
+use Rattle.certificate.specs.Format.{implication_bytes, implication_start}
+use Rattle.certificate.specs.Layout.{implication_from}
 use Rattle.ipl.specs.Range.{implication_in_range}
-use Rattle.ipl.proofs.Lists.{all_next, all_fails, all_end}
+use Rattle.certificate.proofs.Chains.{all_rows}
 use Rattle.certificate.proofs.ranges.implications_in_range.Goals as goal
-use Rattle.certificate.proofs.ranges.implications_in_range.Invariants.{row}
-
-pub loop-i-init : goal.loop-i-init
-unfolding all tabulate
-loop-i-init c = (omega arith, refl)
-
-pub overflow_mul-i : goal.overflow_mul-i
-overflow_mul-i c = omega arith
-
-pub overflow_add-start : goal.overflow_add-start
-overflow_add-start c = omega arith
-
-pub implication_from-x-requires : goal.implication_from-x-requires
-implication_from-x-requires c = omega arith
-
-pub returns-then-not-implication_in_range : goal.returns-then-not-implication_in_range
-returns-then-not-implication_in_range c =
-    let given = c.args in
-    sym (all_fails (implication_in_range given.n) (row given.bytes.now given.start) c.loop-i.i given.count (omega arith)
-    (ap (implication_in_range given.n) (sym c.implication_from-x.ensures) ∙ sym c.implication_in_range.ensures ∙ c.if-not-implication_in_range.true))
-
-pub overflow_add-i : goal.overflow_add-i
-overflow_add-i c = omega arith
-
-pub loop-i-smaller : goal.loop-i-smaller
-loop-i-smaller c = omega arith
-
-pub loop-i-preserved : goal.loop-i-preserved
-loop-i-preserved c =
-    let given = c.args in (
-      omega arith,
-      all_next (implication_in_range given.n) (row given.bytes.now given.start) c.loop-i.i c.loop-i.invariant.1
-          (ap (implication_in_range given.n) (sym c.implication_from-x.ensures) ∙ sym c.implication_in_range.ensures ∙ c.if-not-implication_in_range.false),
-    )
 
 pub returns : goal.returns
 returns c =
-    let given = c.args in
-    all_end (implication_in_range given.n) (row given.bytes.now given.start) c.loop-i.i given.count c.loop-i.invariant.0 (omega arith) c.loop-i.invariant.1
+    let s = c.args.sheet.now.bytes.now in
+    let k = c.args.sheet.now.contents in
+    all_from_yields_List (λ i. implication_in_range c.args.n (implication_from s (implication_start k.flats + implication_bytes * i))) _ _ c.all.result c.all.ensures.ran (YieldsList-from_range 0 k.implications k.implications refl (omega arith)) (λ x b q h. search (rules, tests))
+    ∙ all_rows (implication_in_range c.args.n) (λ i. implication_from s (implication_start k.flats + implication_bytes * i)) k.implications

@@ -1,15 +1,14 @@
 -- A row there, or past the end.
-use mathlib.Core.Path.{◌∙◌}
-use Rattle.certificate.proofs.RowsBack.{implication_past, implication_there, implication_fits}
+use mathlib.Core.Path.{◌∙◌, subst}
+use Rattle.certificate.specs.Checked.{SheetRead}
+use Rattle.certificate.proofs.RowsBack.{unlaid_implication, implication_past, implication_there}
 use Rattle.certificate.proofs.read_back.implication_at.Goals as goal
 
-pub implication_from-requires : goal.implication_from-requires
-implication_from-requires c =
-    implication_fits _ _ _ _ c.implications_at.ensures c.kept-k.ensures c.if-i-k.true
+pub returns-in-Some : goal.returns-in-Some
+returns-in-Some c = c.implication.ensures ∙ implication_there _ _ c.in-Some.ensures _ c.if-i-sheet.true
 
-pub returns-then-i-k : goal.returns-then-i-k
-returns-then-i-k c =
-    c.implication_from.ensures ∙ implication_there _ _ _ _ c.implications_at.ensures c.kept-k.ensures c.if-i-k.true
+pub returns-in_default : goal.returns-in_default
+returns-in_default c = implication_past _ _ c.in-Some.ensures _ c.if-i-sheet.false
 
-pub returns-else-i-k : goal.returns-else-i-k
-returns-else-i-k c = implication_past _ _ _ c.kept-k.ensures c.if-i-k.false
+pub returns-in_default-2 : goal.returns-in_default-2
+returns-in_default-2 c = unlaid_implication _ (subst (SheetRead _) c.in_default.is c.read.ensures) _

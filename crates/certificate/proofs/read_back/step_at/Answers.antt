@@ -1,23 +1,19 @@
 -- A step there, past the end, or of no derivation.
-use borrow.Author.Tests.{not-true, not-false}
-use mathlib.Core.Path.{ap, ◌∙◌}
+use mathlib.Core.Path.{ap, ◌∙◌, subst}
 use Rattle.atoms.proofs.Machine.{num_empty}
 use Rattle.ipl.specs.Search.{Step}
-use Rattle.certificate.proofs.RowsBack.{step_past, step_other, step_there, step_fits}
+use Rattle.certificate.specs.Checked.{SheetRead}
+use Rattle.certificate.proofs.RowsBack.{unlaid_step, step_past, step_other, step_there}
 use Rattle.certificate.proofs.read_back.step_at.Goals as goal
 
-pub step_from-requires : goal.step_from-requires
-step_from-requires c =
-    step_fits _ _ _ _ c.claim_at.ensures c.kept-k.ensures (not-true _ c.if-not-k.true) c.if-i-k.true
+pub returns-in-Some : goal.returns-in-Some
+returns-in-Some c = c.step.ensures ∙ step_there _ _ c.in-Some.ensures _ c.if-not-sheet.true c.if-i-sheet.true
 
-pub returns-then-i-k : goal.returns-then-i-k
-returns-then-i-k c =
-    c.step_from.ensures
-    ∙ step_there _ _ _ _ c.claim_at.ensures c.kept-k.ensures (not-true _ c.if-not-k.true) c.if-i-k.true
+pub returns-in_default : goal.returns-in_default
+returns-in_default c = ap {B = Step} (λ y. record { number = 0; assumed = y }) num_empty ∙ step_past _ _ c.in-Some.ensures _ c.if-not-sheet.true c.if-i-sheet.false
 
-pub returns-else-i-k : goal.returns-else-i-k
-returns-else-i-k c =
-    ap {B = Step} (λ y. record { number = 0; assumed = y }) num_empty ∙ step_past _ _ _ c.kept-k.ensures (not-true _ c.if-not-k.true) c.if-i-k.false
+pub returns-in_default-2 : goal.returns-in_default-2
+returns-in_default-2 c = ap {B = Step} (λ y. record { number = 0; assumed = y }) num_empty ∙ step_other _ _ c.in-Some.ensures _ c.if-not-sheet.false
 
-pub returns-else-not-k : goal.returns-else-not-k
-returns-else-not-k c = ap {B = Step} (λ y. record { number = 0; assumed = y }) num_empty ∙ step_other _ _ _ c.kept-k.ensures (not-false _ c.if-not-k.false)
+pub returns-in_default-3 : goal.returns-in_default-3
+returns-in_default-3 c = ap {B = Step} (λ y. record { number = 0; assumed = y }) num_empty ∙ unlaid_step _ (subst (SheetRead _) c.in_default.is c.read.ensures) _

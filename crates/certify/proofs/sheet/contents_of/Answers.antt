@@ -8,18 +8,18 @@ use Rattle.certify.proofs.sheet.contents_of.Goals as goal
 use Rattle.certify.proofs.sheet.contents_of.Goals.{else-refuting, then-refuting}
 
 -- The rows of the claim that it is.
-rows_counted : (c : goal.After-row_known-1) → c.if-refuting.rows ≡ rows_held c.args.s c.args.refuting
+rows_counted : (c : goal.After-row_known-3-1) → c.if-refuting.rows ≡ rows_held c.args.s.now c.args.refuting
 rows_counted c =
-    elim c.if-refuting.branch [ then-refuting w ↦ w.rows-is ∙ ap (rows_held c.args.s) (sym w.if-refuting.true) | else-refuting w ↦ w.rows-is ∙ ap (rows_held c.args.s) (sym w.if-refuting.false) ]
+    elim c.if-refuting.branch [ then-refuting w ↦ w.rows-is ∙ ap (rows_held c.args.s.now) (sym w.if-refuting.true) | else-refuting w ↦ w.rows-is ∙ ap (rows_held c.args.s.now) (sym w.if-refuting.false) ]
 
 pub overflow_cast-result : goal.overflow_cast-result
-overflow_cast-result c = omega (arith, few_flats c.args.s c.requires)
+overflow_cast-result c = omega (arith, few_flats c.args.s.now c.requires)
 
 pub overflow_cast-result-2 : goal.overflow_cast-result-2
-overflow_cast-result-2 c = omega (arith, (usable c.args.s c.requires).count)
+overflow_cast-result-2 c = omega (arith, (usable c.args.s.now c.requires).count)
 
 pub overflow_cast-result-3 : goal.overflow_cast-result-3
-overflow_cast-result-3 c = omega (arith, rows_counted c, few_rows c.args.s c.requires c.args.refuting)
+overflow_cast-result-3 c = omega (arith, rows_counted c, few_rows c.args.s.now c.requires c.args.refuting)
 
 pub returns : goal.returns
-returns c = contents_as c.args.s c.args.refuting c.if-refuting.rows (rows_counted c)
+returns c = contents_as c.args.s.now c.args.refuting c.if-refuting.rows (rows_counted c)

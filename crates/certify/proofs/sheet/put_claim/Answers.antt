@@ -1,43 +1,27 @@
 -- The worlds, or the steps.
-use mathlib.Core.Bool.{Bool}
-use mathlib.Core.List.{List}
-use mathlib.Core.Path.{◌≡◌, ap, sym, subst, ◌∙◌}
-use Prim.Native.Nat.{ℕ, ◌+◌, ◌*◌, ◌≤◌}
-use lib.ListN.{length}
+use mathlib.Core.Path.{ap, ◌∙◌}
+use Rattle.atoms.specs.Words.{row_of}
 use Rattle.atoms.specs.Bytes.{put_at}
+use Rattle.prover.specs.State as state
 use Rattle.prover.proofs.Sessions.{steps_count}
-use Rattle.certificate.specs.Format.{claim_rows, claim_width}
-use Rattle.certify.specs.Held.{claim_held}
-use Rattle.certify.specs.Writing.{rows_held}
+use Rattle.certificate.specs.Format.{claim_rows, step_row, world_row}
+use Rattle.certify.proofs.Bodies.{rows_each}
 use Rattle.certify.proofs.sheet.put_claim.Goals as goal
 
--- What is asked of the room-put_steps-arg-else-refuting-1 and said of the buffer, where it refutes or not as told.
-room-put_steps-arg-else-refuting-1 : (c : goal.After-put_steps-arg-else-refuting-1) (r : Bool) → c.args.refuting ≡ r → c.args.at + claim_width r * rows_held c.args.s r ≤ length c.args.buffer.now
-room-put_steps-arg-else-refuting-1 c r e = subst (λ (r : Bool). c.args.at + claim_width r * rows_held c.args.s r ≤ length c.args.buffer.now) e c.requires.1
+pub put_table-requires : goal.put_table-requires
+put_table-requires c = (rw c.if-refuting.true at c.requires.1, tt)
 
--- What is asked of the room-put_worlds-arg-then-refuting-1 and said of the buffer, where it refutes or not as told.
-room-put_worlds-arg-then-refuting-1 : (c : goal.After-put_worlds-arg-then-refuting-1) (r : Bool) → c.args.refuting ≡ r → c.args.at + claim_width r * rows_held c.args.s r ≤ length c.args.buffer.now
-room-put_worlds-arg-then-refuting-1 c r e = subst (λ (r : Bool). c.args.at + claim_width r * rows_held c.args.s r ≤ length c.args.buffer.now) e c.requires.1
-
-told-slice_known-else-refuting-1 : (c : goal.After-slice_known-else-refuting-1) (r : Bool) → c.args.refuting ≡ r → (b : List ℕ) → b ≡ put_at c.args.buffer.now c.args.at (claim_rows (claim_held c.args.s r))
-    → b ≡ put_at c.args.buffer.now c.args.at (claim_rows (claim_held c.args.s c.args.refuting))
-told-slice_known-else-refuting-1 c r e b put = put ∙ ap (λ (r : Bool). put_at c.args.buffer.now c.args.at (claim_rows (claim_held c.args.s r))) (sym e)
-
-told-slice_known-then-refuting-1 : (c : goal.After-slice_known-then-refuting-1) (r : Bool) → c.args.refuting ≡ r → (b : List ℕ) → b ≡ put_at c.args.buffer.now c.args.at (claim_rows (claim_held c.args.s r))
-    → b ≡ put_at c.args.buffer.now c.args.at (claim_rows (claim_held c.args.s c.args.refuting))
-told-slice_known-then-refuting-1 c r e b put = put ∙ ap (λ (r : Bool). put_at c.args.buffer.now c.args.at (claim_rows (claim_held c.args.s r))) (sym e)
-
-pub put_worlds-requires : goal.put_worlds-requires
-put_worlds-requires c = room-put_worlds-arg-then-refuting-1 c _ c.if-refuting.true
-
-pub put_steps-requires : goal.put_steps-requires
-put_steps-requires c =
-    (room-put_steps-arg-else-refuting-1 c _ c.if-refuting.false, (steps_count c.args.s c.requires.0).0)
+pub put_table-requires-else-refuting : goal.put_table-requires-else-refuting
+put_table-requires-else-refuting c = (rw c.if-refuting.false at c.requires.1, (steps_count c.args.s.now c.requires.0).0)
 
 pub returns-then-refuting : goal.returns-then-refuting
 unfolding claim_rows
-returns-then-refuting c = told-slice_known-then-refuting-1 c _ c.if-refuting.true _ c.put_worlds.ensures
+returns-then-refuting c =
+    let t = c.args.s.now.worlds in
+    rw c.if-refuting.true (c.put_table.ensures ∙ ap (put_at c.args.buffer.now c.args.at) (rows_each world_row (row_of t.sets) t.count))
 
 pub returns-else-refuting : goal.returns-else-refuting
 unfolding claim_rows
-returns-else-refuting c = told-slice_known-else-refuting-1 c _ c.if-refuting.false _ c.put_steps.ensures
+returns-else-refuting c =
+    let t = c.args.s.now.steps in
+    rw c.if-refuting.false (c.put_table-else-refuting.ensures ∙ ap (put_at c.args.buffer.now c.args.at) (rows_each step_row (state.step_row t) t.count))

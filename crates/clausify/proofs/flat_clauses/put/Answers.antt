@@ -1,17 +1,11 @@
--- A row more in both columns, or none.
-use Rattle.clausify.proofs.Written.{put_none, put_one}
-use native.Mathlib.Omega.{arith}
+-- Skipped, or a row more.
+use mathlib.Core.Path.{sym, ◌∙◌}
+use Rattle.clausify.proofs.Written.{any_listed, clause_skipped, clause_put}
 use Rattle.clausify.proofs.flat_clauses.put.Goals as goal
 
-pub returns-then-skipped : goal.returns-then-skipped
-returns-then-skipped c = rw c.if-skipped.true (put_none _ _ _)
+pub returns-then-not-contains : goal.returns-then-not-contains
+returns-then-not-contains c = clause_put _ _ c.args.left.now c.args.right.now _ (sym (any_listed _) ∙ sym c.contains.ensures.value ∙ c.if-not-contains.true)
+    c.set_of.ensures c.set_of-then-not-contains.ensures c.push.ensures
 
-pub overflow_add-result : goal.overflow_add-result
-overflow_add-result c =
-    let asked = c.requires in
-    omega (arith, asked.few)
-
-pub returns : goal.returns
-returns c =
-    rw c.if-skipped.false
-    (put_one _ _ _ _ _ _ _ c.requires c.set_row.ensures c.set_row-2.ensures)
+pub returns-else-not-contains : goal.returns-else-not-contains
+returns-else-not-contains c = clause_skipped _ c.args.left.now c.args.right.now (sym (any_listed _) ∙ sym c.contains.ensures.value ∙ c.if-not-contains.false)

@@ -1,23 +1,19 @@
--- Three clauses, one after the other.
-use mathlib.Core.Bool.{not}
-use lib.Dec.{eqb}
-use mathlib.Core.Path.{refl}
-use Rattle.atoms.proofs.Machine.{num_empty}
-use Rattle.ipl.specs.Clause.{bot}
-use Rattle.clausify.proofs.Written.{fits_second, fits_third, implies_put}
+-- One clause, or two.
+use native.Mathlib.Omega.{arith}
+use Rattle.clausify.proofs.Written.{first_in, room_second, from_bot_put, implies_put}
 use Rattle.clausify.proofs.flat_clauses.put_implies.Goals as goal
 
-pub put-two-requires : goal.put-two-requires
-put-two-requires c =
-    fits_second _ _ _ _ _ _ c.requires (not (eqb c.args.y bot)) _ _ _ _ c.put-one.ensures
-
 pub put-requires : goal.put-requires
-put-requires c =
-    fits_third _ _ _ _ _ _ c.requires (not (eqb c.args.y bot)) (eqb c.args.y bot)
-    _ _ _ _ _ _ _ _ c.put-one.ensures c.put-two.ensures
+put-requires c = (omega (arith, c.requires.few), tt, (first_in _ _ _ _ c.requires, tt))
 
-pub returns : goal.returns
-returns c =
-    let asked = c.requires in
-    implies_put _ _ _ _ _ _ asked _ _ _ _ c.single-whole.ensures c.single-first.ensures c.single-second.ensures
-    _ _ _ _ _ _ _ _ _ _ num_empty c.join.ensures _ refl c.put-one.ensures c.put-two.ensures c.put.ensures
+pub put-requires-else-y-eq-BOTTOM : goal.put-requires-else-y-eq-BOTTOM
+put-requires-else-y-eq-BOTTOM c = (omega (arith, c.requires.few), (first_in _ _ _ _ c.requires, (c.requires.left_atom, tt)), (c.requires.right_atom, tt))
+
+pub put-requires-else-y-eq-BOTTOM-2 : goal.put-requires-else-y-eq-BOTTOM-2
+put-requires-else-y-eq-BOTTOM-2 c = (room_second _ _ _ _ c.requires _ _ _ c.put-else-y-eq-BOTTOM.ensures, (c.requires.right_atom, tt), (first_in _ _ _ _ c.requires, tt))
+
+pub returns-then-y-eq-BOTTOM : goal.returns-then-y-eq-BOTTOM
+returns-then-y-eq-BOTTOM c = from_bot_put _ _ _ _ _ c.if-y-eq-BOTTOM.true c.put.ensures
+
+pub returns-else-y-eq-BOTTOM : goal.returns-else-y-eq-BOTTOM
+returns-else-y-eq-BOTTOM c = implies_put _ _ _ _ _ _ c.if-y-eq-BOTTOM.false c.put-else-y-eq-BOTTOM.ensures c.put-else-y-eq-BOTTOM-2.ensures

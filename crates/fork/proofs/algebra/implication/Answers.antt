@@ -1,9 +1,9 @@
--- By the table's entry.
-use native.Mathlib.Omega.{arith}
+-- By the table's entry: its constants are the implications, each computed from the definition.
+use Rattle.ipl.specs.Lists.{all, tabulate}
+use Rattle.fork.specs.Algebra.{meet, within, is_implication, number_with, implication}
+use Rattle.fork.proofs.Operations.{table, implication_entry}
 use Rattle.fork.proofs.algebra.implication.Goals as goal
 
-pub bounds-table-a : goal.bounds-table-a
-bounds-table-a c = let (table, a, b) = c.requires in omega (arith, table.sized, a, b)
-
 pub returns : goal.returns
-returns c = let (table, a, b) = c.requires in table.entry _ _ a b
+unfolding all tabulate meet within is_implication number_with implication table
+returns c = rw (c.from.ensures, c.from-2.ensures) (implication_entry _ _ c.requires.0 c.requires.1)

@@ -7,7 +7,6 @@ use lib.Seq.{take-suc, take-suc-set, take_all}
 use Rattle.fork.specs.Screen.{assignment, most_letters}
 use Rattle.fork.specs.Cells.{set_at}
 use Rattle.fork.proofs.Digits.{assignment_length, place_set}
-use borrow.Author.Rules.{rules}
 use native.Mathlib.Omega.{arith}
 use Rattle.fork.proofs.assignments.sets_of.Goals as goal
 
@@ -20,22 +19,19 @@ more number letters i sets x few h l e d =
     ∙ ap₂ (λ (a : List ℕ) (s : ℕ). a ++ (s ∷ [])) e (d ∙ place_set letters number i _ few h refl)
     ∙ sym (take-suc (assignment letters number) i 0 (omega (arith, assignment_length letters number))))
 
-pub loop-i-init : goal.loop-i-init
-loop-i-init c = (omega arith, search rules, refl)
-
 pub loop-i-preserved : goal.loop-i-preserved
 loop-i-preserved c =
     let s = c.args in
-    let l = c.loop-i in (
-      omega arith,
-      length-set l.sets l.i c.set_at.result ∙ l.invariant.1,
-      more s.number s.letters l.i l.sets _ (search rules) (search rules) l.invariant.1 l.invariant.2 c.set_at.ensures,
+    let l = c.loop-i in
+    rw c.from.ensures (
+      length-set l.sets l.i c.set_at.result ∙ l.invariant.0,
+      more s.number s.letters l.i l.sets _ c.requires c.loop-i-test.true l.invariant.0 l.invariant.1 c.set_at.ensures,
     )
 
 pub returns : goal.returns
 returns c =
     let s = c.args in
     let l = c.loop-i in
-    let all : l.i ≡ s.letters = omega arith in
-    subst (λ (i : ℕ). take i l.sets ≡ take i (assignment s.letters s.number)) all l.invariant.2
+    let all : l.i ≡ s.letters = omega (arith, c.loop-i-test.false, l.auto.i-end) in
+    subst (λ (i : ℕ). take i l.sets ≡ take i (assignment s.letters s.number)) all l.invariant.1
     ∙ take_all s.letters (assignment s.letters s.number) (omega (arith, assignment_length s.letters s.number))

@@ -20,32 +20,13 @@ one_more C i j before here m h = elim (dec_lt m j) [
 ]
 
 pub loop-column-init : goal.loop-column-init
-loop-column-init c = (omega arith, λ j h. absurd (omega arith))
+loop-column-init c = λ j h. absurd (omega arith)
 
 pub bounds-values-row : goal.bounds-values-row
 bounds-values-row c = omega (arith, cell_inside c.args.row c.loop-column.column (search rules) (search rules))
 
 pub returns-then-values-row-ne-WHOLE : goal.returns-then-values-row-ne-WHOLE
-returns-then-values-row-ne-WHOLE c =
-    let l = c.loop-column in
-    record { before = l.invariant.1; within = l.invariant.0; fails = λ h. ne_eqb _ _ c.if-values-row-ne-WHOLE.true }
+returns-then-values-row-ne-WHOLE c = record { inside = c.loop-column-test.true; before = c.loop-column.invariant; fails = ne_eqb _ _ c.if-values-row-ne-WHOLE.true }
 
 pub loop-column-preserved : goal.loop-column-preserved
-loop-column-preserved c = (omega arith, one_more c.args.values.now c.args.row _ c.loop-column.invariant.1 c.if-values-row-ne-WHOLE.false)
-
-pub returns : goal.returns
-returns c =
-    let l = c.loop-column in
-    record { before = l.invariant.1; within = l.invariant.0; fails = λ h. absurd (omega arith) }
-
-pub overflow_mul-row : goal.overflow_mul-row
-overflow_mul-row c = omega arith
-
-pub overflow_add-row : goal.overflow_add-row
-overflow_add-row c = omega arith
-
-pub overflow_add-column : goal.overflow_add-column
-overflow_add-column c = omega arith
-
-pub loop-column-smaller : goal.loop-column-smaller
-loop-column-smaller c = omega arith
+loop-column-preserved c = one_more c.args.values.now c.args.row _ c.loop-column.invariant c.if-values-row-ne-WHOLE.false

@@ -1,14 +1,11 @@
 -- The cells before the column hold the whole.
-use Prim.Native.Nat.{ℕ, ◌-◌, ◌<◌, ◌≤◌}
+use Prim.Native.Nat.{ℕ, ◌<◌}
 use mathlib.Core.Bool.{true}
 use mathlib.Core.Path.{◌≡◌}
 use lib.Dec.{eqb}
-use Rattle.fork.specs.Fork.{whole, set_count}
+use Rattle.fork.specs.Fork.{whole}
 use Rattle.fork.specs.Cells.{cell_at}
 use Rattle.fork.proofs.rows.first_below.Given as goal
 
 abbrev pub invariant-loop-column : goal.invariant-loop-column
-invariant-loop-column l = (l.column ≤ set_count) × ((j : ℕ) → j < l.column → eqb (cell_at l.values l.row j) whole ≡ true)
-
-abbrev pub decreases-loop-column : goal.decreases-loop-column
-decreases-loop-column l = set_count - l.column
+invariant-loop-column l = (j : ℕ) → j < l.column → eqb (cell_at l.values l.row j) whole ≡ true

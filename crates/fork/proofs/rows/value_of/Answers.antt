@@ -6,14 +6,14 @@ use Rattle.fork.specs.Cells.{entry_value}
 use Rattle.fork.proofs.Filling.{left_cell, right_cell}
 use Rattle.fork.proofs.rows.value_of.Goals as goal
 
-pub bounds-values-a : goal.bounds-values-a
-bounds-values-a c = left_cell _ _ _ _ c.requires.1 _ _ _ c.in-Compound.is
+pub bounds-values-from : goal.bounds-values-from
+bounds-values-from c = rw c.from.ensures (left_cell _ _ _ _ c.requires _ _ _ c.in-Compound.is)
 
-pub bounds-values-b : goal.bounds-values-b
-bounds-values-b c = right_cell _ _ _ _ c.requires.1 _ _ _ c.in-Compound.is
+pub bounds-values-from-in-Compound : goal.bounds-values-from-in-Compound
+bounds-values-from-in-Compound c = rw c.from-in-Compound.ensures (right_cell _ _ _ _ c.requires _ _ _ c.in-Compound.is)
 
 pub connected-requires : goal.connected-requires
-connected-requires c = let (table, r) = c.requires in (table, r.good.sets _, r.good.sets _)
+connected-requires c = let r = c.requires in (r.good.sets _, r.good.sets _)
 
 pub returns-in-Letter : goal.returns-in-Letter
 returns-in-Letter c =
@@ -23,4 +23,4 @@ returns-in-Letter c =
 pub returns-in-Compound : goal.returns-in-Compound
 returns-in-Compound c =
     let s = c.args in
-    c.connected.ensures ∙ sym (ap (λ (p : Part). entry_value s.values.now s.column s.number s.place (entry_of p)) c.in-Compound.is)
+    (rw (c.from.ensures, c.from-in-Compound.ensures) at c.connected.ensures) ∙ sym (ap (λ (p : Part). entry_value s.values.now s.column s.number s.place (entry_of p)) c.in-Compound.is)

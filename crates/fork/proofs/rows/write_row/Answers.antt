@@ -5,43 +5,29 @@ use native.Mathlib.Omega.{arith}
 use Rattle.fork.proofs.rows.write_row.Goals as goal
 
 pub loop-column-init : goal.loop-column-init
-loop-column-init c = begun_none _ _ _ _ _ c.requires.1.good
+loop-column-init c = begun_none _ _ _ _ _ c.requires.good
 
 pub value_of-value-requires : goal.value_of-value-requires
-value_of-value-requires c =
-    let (table, w) = c.requires in
-    (table, begun_readable _ _ _ _ _ w.inside w.earlier _ _ c.loop-column.invariant (search rules))
+value_of-value-requires c = begun_readable _ _ _ _ _ c.requires.inside c.requires.earlier _ _ c.loop-column.invariant (search rules)
 
 pub bounds-values-row : goal.bounds-values-row
 bounds-values-row c =
-    let w = c.requires.1 in
+    let w = c.requires in
     let l = c.loop-column in
     omega (arith, l.invariant.good.sized, cell_inside c.args.row l.column w.inside (search rules))
 
 pub loop-column-preserved : goal.loop-column-preserved
 loop-column-preserved c =
-    let w = c.requires.1 in
+    let w = c.requires in
     begun_more _ _ _ _ _ w.inside w.earlier _ _ c.loop-column.invariant (search rules) _ c.value_of-value.ensures
 
 pub shape_of-values : goal.shape_of-values
-shape_of-values c = c.loop-column.invariant.good.sized ∙ sym c.requires.1.good.sized
+shape_of-values c = c.loop-column.invariant.good.sized ∙ sym c.requires.good.sized
 
 pub returns : goal.returns
 returns c =
-    let w = c.requires.1 in
+    let w = c.requires in
     begun_all _ _ _ _ _ w.inside w.earlier _ _ c.loop-column.invariant c.loop-column-test.false
 
 pub overflow_add-number : goal.overflow_add-number
 overflow_add-number c = omega arith
-
-pub overflow_mul-values : goal.overflow_mul-values
-overflow_mul-values c = omega arith
-
-pub overflow_add-values : goal.overflow_add-values
-overflow_add-values c = omega arith
-
-pub overflow_add-column : goal.overflow_add-column
-overflow_add-column c = omega arith
-
-pub loop-column-smaller : goal.loop-column-smaller
-loop-column-smaller c = omega arith

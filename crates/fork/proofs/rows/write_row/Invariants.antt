@@ -1,12 +1,7 @@
 -- The cells before the column are written.
-use Prim.Native.Nat.{◌-◌}
 use Rattle.syntax.specs.Parts.{entry_of}
-use Rattle.fork.specs.Fork.{set_count}
 use Rattle.fork.proofs.Filling.{Begun}
 use Rattle.fork.proofs.rows.write_row.Given as goal
 
 abbrev pub invariant-loop-column : goal.invariant-loop-column
 invariant-loop-column l = Begun l.initial.values l.row (entry_of l.part) l.number l.place l.values l.column
-
-abbrev pub decreases-loop-column : goal.decreases-loop-column
-decreases-loop-column l = set_count - l.column

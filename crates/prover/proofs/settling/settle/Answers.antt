@@ -1,36 +1,34 @@
--- The search's tables hold what is concluded from.
-use mathlib.Core.Path.{refl}
-use Prim.Native.Nat.{◌+◌}
-use Rattle.atoms.proofs.Machine.{row_count_words}
-use Rattle.ipl.specs.Range.{flat_table, step_table, world_table}
+-- The search begins from the session's clauses and steps.
 use Rattle.ipl.specs.Authors.{author_table}
-use Rattle.prover.proofs.Answers.{Unrefused, question_zero}
+use Rattle.prover.proofs.Answers.{question_zero, ended_whole, full_asked}
+use Rattle.prover.proofs.Sessions.{usable, steps_known}
 use borrow.Author.Tests.{ltb-true}
-use borrow.Author.Rules.{rules}
+use Rattle.std.proofs.lemmas.Result.{err_from_is_err_and}
+use Rattle.std.specs.Prelude.{Ok, Err}
 use Rattle.prover.proofs.settling.settle.Goals as goal
 
-unrefused-kept-1 : (c : goal.After-kept-1) → Unrefused c.args.s c.args.author c.args.goal
-unrefused-kept-1 c = question_zero c.args.s c.args.author c.args.goal c.requires
+pub new-search-requires : goal.new-search-requires
+new-search-requires c =
+    let k = question_zero c.args.s.now c.args.author c.args.goal c.requires in steps_known c.args.s.now k.is_in_range
 
-unrefused-kept-2-1 : (c : goal.After-kept-2-1) → Unrefused c.args.s c.args.author c.args.goal
-unrefused-kept-2-1 c = question_zero c.args.s c.args.author c.args.goal c.requires
-
-pub slice_bounds-decide-end-5 : goal.slice_bounds-decide-end-5
-slice_bounds-decide-end-5 c = let session = c.well_formed.0 in search (rules, session.1.1.1.1.0.1.0)
-
-pub decide-end-requires : goal.decide-end-requires
-decide-end-requires c =
-    record {
-      is_in_range = (unrefused-kept-1 c).is_in_range;
-      left_rows = row_count_words _ (flat_table + step_table) (search rules);
-      right_rows = row_count_words _ (flat_table + step_table) (search rules);
-      numbers_size = search rules;
-      assumed_rows = row_count_words _ step_table (search rules);
-      set_rows = row_count_words _ world_table (search rules);
-      numbers = refl;
-      assumed = refl;
-    }
+pub proceed-requires : goal.proceed-requires
+proceed-requires c =
+    let s = c.args.s.now in
+    let u = usable s (question_zero s c.args.author c.args.goal c.requires).is_in_range in
+    (u, (c.new-search.ensures s.n u).fresh)
 
 pub conclude-requires : goal.conclude-requires
 conclude-requires c =
-    (ltb-true c.args.author author_table (unrefused-kept-2-1 c).author, record { left = c.decide-end.new.left; right = c.decide-end.new.right; ended = c.decide-end.ensures })
+    let s = c.args.s.now in
+    let k = question_zero s c.args.author c.args.goal c.requires in (
+      ltb-true c.args.author author_table k.author,
+      ended_whole s c.args.goal _ c.proceed.new.self (Ok c.in_ok-end.end) (c.new-search.ensures s.n (usable s k.is_in_range)) c.in_ok-end.ensures,
+    )
+
+pub returns-in_err-end-clause-asked : goal.returns-in_err-end-clause-asked
+returns-in_err-end-clause-asked c =
+    let s = c.args.s.now in
+    let k = question_zero s c.args.author c.args.goal c.requires in
+    let p = err_from_is_err_and c.from_residual.result c.from_residual.ensures.1 in
+    rw (p.1, p.2) (full_asked s c.args.author c.args.goal _ c.proceed.new.self c.in_err-end.field-0.0
+    (ended_whole s c.args.goal _ c.proceed.new.self (Err c.in_err-end.field-0.0) (c.new-search.ensures s.n (usable s k.is_in_range)) c.in_err-end.ensures))

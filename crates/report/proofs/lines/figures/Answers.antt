@@ -7,4 +7,6 @@ use Rattle.report.proofs.lines.figures.Goals as goal
 pub returns : goal.returns
 unfolding figures ascii
 returns c =
-    both (both (both c.figure-a.ensures c.figure-b.ensures) c.figure-c.ensures) c.word.ensures
+    let atoms = rw c.from.ensures at c.figure.ensures in
+    let questions = rw c.from-2.ensures at c.figure-2.ensures in
+    both (both (both atoms questions) c.figure-3.ensures) c.word.ensures

@@ -6,5 +6,4 @@ use Rattle.report.proofs.lines.step.Goals as goal
 
 pub returns : goal.returns
 unfolding step_line ascii
-returns c =
-    both (both c.figure-a.ensures c.labelled-b.ensures) c.word.ensures
+returns c = both (both (rw c.from.ensures at c.figure.ensures) c.labelled.ensures) c.word.ensures

@@ -6,4 +6,4 @@ use Rattle.report.proofs.lines.world.Goals as goal
 
 pub returns : goal.returns
 unfolding world_line ascii
-returns c = both c.labelled-end.ensures c.word.ensures
+returns c = both c.labelled.ensures c.word.ensures

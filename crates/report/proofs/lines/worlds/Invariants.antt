@@ -1,5 +1,4 @@
--- The lines of the rows passed; once the buffer is full, those of all rows.
-use Prim.Native.Nat.{◌≤◌, ◌-◌}
+-- The lines of the rows before i.
 use Rattle.atoms.specs.Words.{row_of}
 use Rattle.ipl.specs.Lists.{tabulate}
 use Rattle.certificate.specs.Format.{each}
@@ -8,7 +7,4 @@ use Rattle.report.specs.Report.{world_line}
 use Rattle.report.proofs.lines.worlds.Given as goal
 
 abbrev pub invariant-loop-i : goal.invariant-loop-i
-invariant-loop-i l = (l.i ≤ l.count) × Appends (each world_line (tabulate (row_of l.table.sets) l.i)) l.initial.draft l.at l.draft l.end
-
-abbrev pub decreases-loop-i : goal.decreases-loop-i
-decreases-loop-i l = l.count - l.i
+invariant-loop-i l = Appends (each world_line (tabulate (row_of l.table.sets) l.i)) l.initial.draft l.draft

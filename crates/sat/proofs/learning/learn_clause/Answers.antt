@@ -2,5 +2,4 @@
 use Rattle.sat.proofs.learning.learn_clause.Goals as goal
 
 pub add-requires : goal.add-requires
-add-requires c =
-    c.shorter-s.ensures c.requires
+add-requires c = c.shorter-s.ensures c.requires

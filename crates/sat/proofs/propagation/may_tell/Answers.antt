@@ -6,5 +6,5 @@ use Rattle.sat.proofs.propagation.may_tell.Goals as goal
 pub returns : goal.returns
 returns c =
     c.is_empty.ensures ∙ ap (λ (z : ℕ). eqb z 0) (c.join.ensures ∙ ap₂ union
-    (c.join-settled.ensures ∙ ap₂ union c.common.ensures c.common-2.ensures)
-    (c.without_lowest.ensures ∙ ap without_lowest (c.join-open.ensures ∙ ap₂ union c.without.ensures c.without-2.ensures)))
+    c.settled.ensures
+    (c.without_lowest.ensures ∙ ap without_lowest (c.atoms-open.ensures ∙ ap₂ union c.open.ensures.left c.open.ensures.right)))

@@ -2,13 +2,12 @@
 use Rattle.std.proofs.Common.{suc, ◌+◌, ◌-◌, ◌^◌}
 use Rattle.atoms.specs.Sets.{limit}
 use Rattle.atoms.specs.Words.{num}
-use Rattle.sat.specs.Table.{AllHold}
-use Rattle.sat.specs.Knowledge.{Forces}
-use Rattle.sat.specs.declared.propagation.Forced.TheVariants.{Known}
+use Rattle.sat.specs.Rows.{EachHolds}
+use Rattle.sat.specs.Knowledge.{Learns}
 use Rattle.sat.proofs.propagation.propagate.Given as goal
 
 abbrev pub invariant-loop-r : goal.invariant-loop-r
-invariant-loop-r l = Forces (AllHold l.left l.right l.count) l.initial.q (Known l.q)
+invariant-loop-r l = Learns (EachHolds l.t) l.initial.q l.q
 
 abbrev pub decreases-loop-r : goal.decreases-loop-r
 decreases-loop-r l = 2 ^ suc limit - (num l.q.has + num l.q.lacks)

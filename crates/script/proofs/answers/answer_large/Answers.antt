@@ -1,35 +1,24 @@
 -- By the call.
 use mathlib.Core.Path.{refl, ap}
+use native.Mathlib.Omega.{arith}
 use Rattle.script.specs.Reading.{as_call}
 use Rattle.script.proofs.Performing.{known_inside, page_done}
 use Rattle.script.proofs.answers.answer_large.Goals as goal
 
-pub read_text-requires : goal.read_text-requires
-read_text-requires c =
-    known_inside _ c.requires.0 (ap as_call c.in-Text.is)
-
 pub page-requires : goal.page-requires
-page-requires c =
-    known_inside _ c.requires.0 (ap as_call c.in-Page.is)
+page-requires c = known_inside _ c.requires.1 (ap as_call c.in-Page.is)
 
 pub check-requires : goal.check-requires
-check-requires c =
-    let inside = known_inside _ c.requires.0 (ap as_call c.in-Check.is) in
-    (inside.0, inside.1, c.requires.1)
-
-pub screen-requires : goal.screen-requires
-screen-requires c =
-    known_inside _ c.requires.0 (ap as_call c.in-Screen.is)
+check-requires c = omega (arith, known_inside _ c.requires.1 (ap as_call c.in-Check.is), c.requires.2)
 
 pub returns-in-Text : goal.returns-in-Text
 returns-in-Text c = λ number.
-    rw c.in-Text.is (c.read_text.ensures c.args.s)
+    rw c.in-Text.is (c.read_text.ensures c.args.s.now)
 
 pub returns-in-Page : goal.returns-in-Page
 returns-in-Page c = λ number.
-    let line = c.args.line.now in
-    let goals = (known_inside line c.requires.0 (ap as_call c.in-Page.is)).1 in
-    rw c.in-Page.is (page_done line c.in-Page.start goals.0 goals.1 number (c.page.ensures goals.0 goals.1))
+    let goals = known_inside _ c.requires.1 (ap as_call c.in-Page.is) in
+    rw c.in-Page.is (page_done _ goals.0 goals.1 number (c.page.ensures goals.0 goals.1))
 
 pub returns-in-Sheet : goal.returns-in-Sheet
 returns-in-Sheet c = λ number. rw c.in-Sheet.is (_, (refl, refl), c.write_sheet.ensures)

@@ -3,4 +3,4 @@ use Rattle.text.proofs.Appending.{both}
 use Rattle.script.proofs.answers.numbered.Goals as goal
 
 pub returns : goal.returns
-returns c = both c.figure-end.ensures c.word.ensures
+returns c = both c.figure.ensures c.word.ensures

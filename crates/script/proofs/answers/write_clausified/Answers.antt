@@ -1,13 +1,11 @@
 -- By the number.
 use Rattle.text.specs.Text.{ascii}
-use borrow.Author.Tests.{eq-eqb, ne_eqb}
-use native.Mathlib.Omega.{arith}
+use Rattle.script.proofs.Refusals.{clausified_refused}
 use Rattle.script.proofs.answers.write_clausified.Goals as goal
 
-pub returns-then-refusal-eq0 : goal.returns-then-refusal-eq0
+pub returns-in-Ok : goal.returns-in-Ok
 unfolding ascii
-returns-then-refusal-eq0 c = rw (eq-eqb c.args.refusal 0 (omega arith)) c.numbered.ensures
+returns-in-Ok c = rw c.in-Ok.is (rw c.from.ensures at c.numbered.ensures)
 
-pub returns-else-refusal-eq0 : goal.returns-else-refusal-eq0
-unfolding ascii
-returns-else-refusal-eq0 c = rw (ne_eqb c.args.refusal 0 (λ e. omega arith)) c.refusal.ensures
+pub returns-in-Err : goal.returns-in-Err
+returns-in-Err c = rw c.in-Err.is (clausified_refused _ c.number.ensures _ c.place.ensures c.refusal.ensures)

@@ -6,4 +6,4 @@ use Rattle.script.proofs.answers.write_digits.Goals as goal
 pub returns : goal.returns
 unfolding ascii
 returns c =
-    both c.word-a.ensures (both c.hex-b.ensures c.word.ensures)
+    both c.word.ensures (both c.hex.ensures c.word-2.ensures)

@@ -5,11 +5,11 @@ use Rattle.text.proofs.Appending.{same_text}
 use Rattle.script.specs.State.{length_line}
 use Rattle.script.proofs.answers.write_length.Goals as goal
 
-pub returns-in-Bytes : goal.returns-in-Bytes
+pub returns-in-Ok : goal.returns-in-Ok
 unfolding ascii
-returns-in-Bytes c =
-    same_text (sym (ap length_line (sym c.length_told.ensures ∙ c.in-Bytes.is))) c.numbered.ensures
+returns-in-Ok c =
+    same_text (sym (ap length_line (sym c.length_told.ensures ∙ c.in-Ok.is))) c.numbered.ensures
 
-pub returns-in-Refused : goal.returns-in-Refused
-returns-in-Refused c =
-    same_text (sym (ap length_line (sym c.length_told.ensures ∙ c.in-Refused.is))) c.refusal.ensures
+pub returns-in-Err : goal.returns-in-Err
+returns-in-Err c =
+    same_text (sym (ap length_line (sym c.length_told.ensures ∙ c.in-Err.is))) (rw c.number.ensures at c.refusal.ensures)

@@ -7,16 +7,16 @@ use native.Mathlib.Omega.{arith}
 use Rattle.script.proofs.answers.write_sheet.Goals as goal
 
 pub slice_bounds-sheet-end : goal.slice_bounds-sheet-end
-slice_bounds-sheet-end c = omega (arith, (sheet_given _ _ _ _ c.write.ensures refl _ c.in-Bytes.is).1)
+slice_bounds-sheet-end c = omega (arith, (sheet_given _ _ _ _ c.write.ensures refl _ c.in-Ok.is).1)
 
 pub slice_bounds-write_digits-end : goal.slice_bounds-write_digits-end
 slice_bounds-write_digits-end c =
-    sym (length-take-le _ _ (omega (arith, (sheet_given _ _ _ _ c.write.ensures refl _ c.in-Bytes.is).1)))
+    sym (length-take-le _ _ (omega (arith, (sheet_given _ _ _ _ c.write.ensures refl _ c.in-Ok.is).1)))
 
-pub returns-in-Bytes : goal.returns-in-Bytes
-returns-in-Bytes c =
-    same_text (sheet_given _ _ _ _ c.write.ensures refl _ c.in-Bytes.is).0 c.write_digits.ensures
+pub returns-in-Ok : goal.returns-in-Ok
+returns-in-Ok c =
+    same_text (sheet_given _ _ _ _ c.write.ensures refl _ c.in-Ok.is).0 c.write_digits.ensures
 
-pub returns-in-Refused : goal.returns-in-Refused
-returns-in-Refused c =
-    same_text (sheet_refused _ _ _ _ c.write.ensures refl _ c.in-Refused.is) c.refusal.ensures
+pub returns-in-Err : goal.returns-in-Err
+returns-in-Err c =
+    same_text (sheet_refused _ _ _ _ c.write.ensures refl _ c.in-Err.is) (rw c.number.ensures at c.refusal.ensures)

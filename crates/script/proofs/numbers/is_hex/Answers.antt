@@ -1,24 +1,16 @@
-use mathlib.Core.Path.{sym, ◌∙◌}
-use native.Mathlib.Omega.{arith}
-use Rattle.script.proofs.Hexadecimal.{none_before, another_byte, one_before, all_before}
+-- Every byte is a digit, and they are even in number.
+use Rattle.std.proofs.Common.{◌≡◌, true, false, rules}
+use Rattle.std.proofs.lemmas.Bool.Decides.{when_true}
+use Rattle.std.proofs.lemmas.Iterator.{cases_from_all, YieldsList-from_slice}
+use borrow.Author.Tests.{tests}
+use Rattle.script.specs.Numbers.{is_hex_digit}
+use Rattle.script.proofs.Finding.{every}
 use Rattle.script.proofs.numbers.is_hex.Goals as goal
 
-pub loop-i-init : goal.loop-i-init
-loop-i-init c = none_before _
-
-pub returns-then-not-is_hex_digit : goal.returns-then-not-is_hex_digit
-returns-then-not-is_hex_digit c =
-    another_byte c.loop-i.invariant (omega arith) (sym c.is_hex_digit.ensures ∙ c.if-not-is_hex_digit.true)
-
-pub overflow_add-i : goal.overflow_add-i
-overflow_add-i c = omega arith
-
-pub loop-i-smaller : goal.loop-i-smaller
-loop-i-smaller c = omega arith
-
-pub loop-i-preserved : goal.loop-i-preserved
-loop-i-preserved c =
-    one_before c.loop-i.invariant (omega arith) (sym c.is_hex_digit.ensures ∙ c.if-not-is_hex_digit.false)
-
-pub returns : goal.returns
-returns c = all_before c.loop-i.invariant (omega arith)
+pub returns-then-all : goal.returns-then-all
+returns-then-all c =
+    let word = c.args.word.now in
+    let cases =
+    cases_from_all _ _ _ (λ x. is_hex_digit x ≡ true) (λ x. is_hex_digit x ≡ false) c.all.ensures.ran (YieldsList-from_slice word cc)
+    (λ x q k. search (rules, tests)) (λ x q k. search (rules, tests)) in
+    rw (every is_hex_digit word (when_true _ _ c.if-all.true cases))

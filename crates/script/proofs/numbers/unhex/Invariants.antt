@@ -1,11 +1,10 @@
 -- The bytes of the digits passed are appended.
-use Prim.Native.Nat.{◌-◌}
-use lib.ListN.{length}
+use Rattle.std.proofs.Common.{length}
 use Rattle.script.proofs.Hexadecimal.{BytesBefore}
 use Rattle.script.proofs.numbers.unhex.Given as goal
 
-abbrev pub invariant-loop-i : goal.invariant-loop-i
-invariant-loop-i l = BytesBefore l.word l.initial.sheet l.i l.sheet l.end
+abbrev pub invariant-loop-rest : goal.invariant-loop-rest
+invariant-loop-rest l = BytesBefore l.word l.initial.sheet l.rest l.sheet
 
-abbrev pub decreases-loop-i : goal.decreases-loop-i
-decreases-loop-i l = length l.word - l.i
+abbrev pub decreases-loop-rest : goal.decreases-loop-rest
+decreases-loop-rest l = length l.rest

@@ -6,4 +6,4 @@ use Rattle.script.proofs.pages.figured.Goals as goal
 pub returns : goal.returns
 unfolding ascii
 returns c =
-    both (both c.figure-a.ensures c.figure-b.ensures) c.word.ensures
+    both (both c.figure.ensures c.figure-2.ensures) c.word.ensures

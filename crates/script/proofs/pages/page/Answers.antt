@@ -1,30 +1,20 @@
 -- Refused, or record after record.
-use borrow.Author.Tests.{eq-eqb, ne_eqb}
-use Rattle.script.proofs.Performing.{goals_few, page_made}
-use native.Mathlib.Omega.{arith}
+use Rattle.script.proofs.Performing.{goals_there, goals_few, page_made}
+use Rattle.script.proofs.Refusals.{page_refused}
 use Rattle.script.proofs.pages.page.Goals as goal
 
-pub records_of-requires : goal.records_of-requires
-records_of-requires c =
-    goals_few c.args.line.now c.args.start c.requires.1.0 c.read_goals-goals.result c.read_goals-goals.ensures c.requires.1.1
+pub unwrap-goals-requires : goal.unwrap-goals-requires
+unwrap-goals-requires c = goals_there _ c.requires.0 c.requires.1 _ c.read_goals.ensures
 
-pub write_records-requires : goal.write_records-requires
-write_records-requires c =
-    omega (
-      arith,
-      c.page_of-r.ensures.same_count,
-      c.records_of.ensures.0,
-      goals_few c.args.line.now c.args.start c.requires.1.0 c.read_goals-goals.result c.read_goals-goals.ensures c.requires.1.1,
-    )
+pub records_of-records-requires : goal.records_of-records-requires
+records_of-records-requires c = goals_few _ c.requires.0 c.requires.1 _ (rw c.unwrap-goals.ensures at c.read_goals.ensures)
 
-pub returns-then-changed-ne0 : goal.returns-then-changed-ne0
-returns-then-changed-ne0 c = λ gs e.
-    let given = c.args in
-    page_made given.line.now given.start gs c.read_goals-goals.result c.read_goals-goals.ensures e c.records_of.ensures c.page_of-r.ensures
-    (rw (ne_eqb c.page_of-r.result.changed.refusal 0 c.if-changed-ne0.true) c.refusal.ensures)
+pub returns-in-Ok : goal.returns-in-Ok
+returns-in-Ok c = λ gs e.
+    page_made _ gs e _ (rw c.unwrap-goals.ensures at c.read_goals.ensures) c.page.result c.records_of-records.ensures c.page.ensures.paged
+    (rw c.in-Ok.is c.write_records.ensures)
 
-pub returns : goal.returns
-returns c = λ gs e.
-    let given = c.args in
-    page_made given.line.now given.start gs c.read_goals-goals.result c.read_goals-goals.ensures e c.records_of.ensures c.page_of-r.ensures
-    (rw (eq-eqb c.page_of-r.result.changed.refusal 0 c.if-changed-ne0.false) c.write_records.ensures)
+pub returns-in-Err : goal.returns-in-Err
+returns-in-Err c = λ gs e.
+    page_made _ gs e _ (rw c.unwrap-goals.ensures at c.read_goals.ensures) c.page.result c.records_of-records.ensures c.page.ensures.paged
+    (rw c.in-Err.is (page_refused _ c.number.ensures c.page.new.records c.refusal.ensures))

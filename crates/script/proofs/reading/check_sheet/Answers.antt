@@ -1,11 +1,19 @@
 -- By the digits of the next word.
-use mathlib.Core.Path.{sym, ◌∙◌}
-use Rattle.script.proofs.Calling.{sheet_digits, no_digits}
+use Rattle.std.proofs.Common.{refl, arith}
+use Rattle.script.specs.Numbers.{paired}
+use Rattle.script.specs.Command.{check_sheet}
+use Rattle.script.proofs.Splitting.{no_words, word_short}
+use Rattle.script.proofs.Calling.{finished, sheet_digits, no_digits}
 use Rattle.script.proofs.reading.check_sheet.Goals as goal
 
-pub returns-then-is_hex : goal.returns-then-is_hex
-returns-then-is_hex c =
-    sheet_digits c.next-word.ensures (sym c.if-is_hex.true ∙ c.is_hex.ensures) c.if_last.ensures
+pub returns-in_default : goal.returns-in_default
+unfolding paired
+returns-in_default c = rw (no_words _ c.in_default.ensures) (record { is = refl; inside = omega arith })
+
+pub returns-then-not-is_hex : goal.returns-then-not-is_hex
+returns-then-not-is_hex c = no_digits c.in-Some.ensures c.is_hex.ensures c.if-not-is_hex.true
 
 pub returns : goal.returns
-returns c = no_digits c.next-word.ensures (sym c.if-is_hex.false ∙ c.is_hex.ensures)
+returns c =
+    sheet_digits c.in-Some.ensures c.is_hex.ensures c.if-not-is_hex.false
+    (finished (check_sheet (paired c.in-Some.digits.now)) c.if_last.ensures refl (word_short c.in-Some.ensures).0)

@@ -1,6 +1,6 @@
 -- By whether a word follows.
-use Rattle.script.proofs.Calling.{no_more_words}
+use Rattle.script.proofs.Calling.{last_is}
 use Rattle.script.proofs.reading.is_last.Goals as goal
 
 pub returns : goal.returns
-returns c = no_more_words c.next-word.ensures
+returns c = last_is _ _ _ c.split_first.ensures c.is_none.ensures

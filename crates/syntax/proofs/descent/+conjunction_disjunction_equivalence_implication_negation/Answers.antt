@@ -1,231 +1,182 @@
-use mathlib.Core.Bool.{false≢true}
-use mathlib.Core.Path.{sym, ◌∙◌}
+use Prim.Native.Nat.{◌+◌}
 use native.Mathlib.Omega.{arith}
-use Rattle.syntax.specs.Code.{code_of}
-use Rattle.syntax.proofs.Position.{token_forward}
-use Rattle.syntax.proofs.Held.{made_next}
-use Rattle.syntax.proofs.Grouped.{conjunctions, disjunctions, asks_one, one_reached, asks_more, more_reached, reached_end}
-use Rattle.syntax.proofs.Grouped.{implications, equivalences, asks_left, left_only, asks_right, deep_right, joined}
-use Rattle.syntax.proofs.Operand.{asks_not, deep_not, not_gives, asks_inner, inner_gives, leaf_gives}
+use mathlib.Core.Path.{ap}
+use Rattle.syntax.specs.Code.{decode}
+use Rattle.syntax.specs.declared.bytes.Class.TheVariants as class
+use Rattle.syntax.proofs.Class.{same_class}
+use Rattle.syntax.proofs.Grouped.{conjunctions, disjunctions, asks_one, one_exceeds, one_reached, asks_more, more_exceeds, more_full, more_reached, reached_end}
+use Rattle.syntax.proofs.Grouped.{implications, equivalences, asks_left, left_large, left_only, asks_right, deep_right, right_large, joined_full, joined}
+use Rattle.syntax.proofs.Operand.{asks_not, deep_not, not_large, not_full, not_gives, asks_inner, inner_large, inner_gives, letter_leaf, falsum_leaf, leaf_gives, begun}
 use Rattle.syntax.proofs.descent.+conjunction_disjunction_equivalence_implication_negation.Goals as goal
 
-pub conjunction-negation-whole-requires : goal.conjunction-negation-whole-requires
-conjunction-negation-whole-requires t c = (omega (arith, c.decreases), asks_one _ _ _ _ conjunctions c.requires)
+pub conjunction-negation-requires : goal.conjunction-negation-requires
+conjunction-negation-requires t c = (omega (arith, c.decreases), asks_one _ _ _ _ conjunctions c.requires)
 
-pub conjunction-loop-whole-init : goal.conjunction-loop-whole-init
-conjunction-loop-whole-init t c = λ p asked y. one_reached _ _ p _ conjunctions asked _ y
+pub conjunction-returns-in_err-whole : goal.conjunction-returns-in_err-whole
+conjunction-returns-in_err-whole t c = rw c.from_residual.ensures (one_exceeds _ _ _ _ conjunctions c.requires c.in_err-whole.ensures)
 
-pub conjunction-next_token-t-requires : goal.conjunction-next_token-t-requires
-conjunction-next_token-t-requires t c = (c.loop-whole.invariant _ c.requires c.negation-whole.ensures).inside
+pub conjunction-loop-next-init : goal.conjunction-loop-next-init
+conjunction-loop-next-init t c = one_reached _ _ _ _ conjunctions c.requires _ _ c.in_ok-whole.ensures
 
-pub conjunction-returns-then-t-ne-AND : goal.conjunction-returns-then-t-ne-AND
-unfolding code_of
-conjunction-returns-then-t-ne-AND t c =
-    let asked = c.requires in
-    reached_end _ _ _ _ conjunctions asked _ (c.loop-whole.invariant _ asked c.negation-whole.ensures) (λ u e. c.if-t-ne-AND.true (c.next_token-t.ensures.class_is ∙ e))
+pub conjunction-negation-requires-in-Some : goal.conjunction-negation-requires-in-Some
+conjunction-negation-requires-in-Some t c =
+    let was = c.loop-next.invariant in
+    let comes = c.in-Some.ensures in
+    (omega (arith, was.forward, comes.1, comes.2, c.decreases), asks_more _ _ _ _ conjunctions c.requires _ _ was _ comes)
 
-pub conjunction-negation-whole-requires-in-loop-whole : goal.conjunction-negation-whole-requires-in-loop-whole
-unfolding code_of
-conjunction-negation-whole-requires-in-loop-whole t c =
-    let k = c.next_token-t.ensures in
-    let was = c.loop-whole.invariant _ c.requires c.negation-whole.ensures in (
-      omega (arith, was.forward, token_forward _ _ _ k 2 c.if-t-ne-AND.false (omega arith), k.inside, c.decreases),
-      asks_more _ _ _ _ conjunctions c.requires _ was c.loop-whole-test.true _ k c.if-t-ne-AND.false,
-    )
+pub conjunction-returns-in_err-right : goal.conjunction-returns-in_err-right
+conjunction-returns-in_err-right t c =
+    rw c.from_residual-in_err-right.ensures (more_exceeds _ _ _ _ conjunctions c.requires _ _ c.loop-next.invariant _ c.in-Some.ensures c.in_err-right.ensures)
 
-pub conjunction-compound-whole-requires : goal.conjunction-compound-whole-requires
-conjunction-compound-whole-requires t c = c.negation-whole-in-loop-whole.ensures.sound
+pub conjunction-returns-in_err-compound : goal.conjunction-returns-in_err-compound
+conjunction-returns-in_err-compound t c =
+    rw c.from_residual-in_err-compound.ensures
+    (more_full _ _ _ _ conjunctions c.requires _ _ c.loop-next.invariant _ c.in-Some.ensures _ _ c.in_ok-right.ensures c.compound.new.self c.in_err-compound.ensures)
 
-pub conjunction-loop-whole-smaller : goal.conjunction-loop-whole-smaller
-conjunction-loop-whole-smaller t c =
-    let y = c.negation-whole-in-loop-whole.ensures in
-    omega (arith, made_next _ _ _ c.compound-whole.ensures, y.forward, y.inside, token_forward _ _ _ c.next_token-t.ensures 2 c.if-t-ne-AND.false (omega arith))
-
-pub conjunction-loop-whole-preserved : goal.conjunction-loop-whole-preserved
-unfolding code_of
-conjunction-loop-whole-preserved t c =
-    let k = c.next_token-t.ensures in
-    let on = token_forward _ _ _ k 2 c.if-t-ne-AND.false (omega arith) in
-    λ p asked y. more_reached _ _ p _ conjunctions asked _ (c.loop-whole.invariant p asked y) c.loop-whole-test.true _ k c.if-t-ne-AND.false _ _ on
-    c.negation-whole-in-loop-whole.ensures c.compound-whole.ensures
+pub conjunction-loop-next-preserved : goal.conjunction-loop-next-preserved
+conjunction-loop-next-preserved t c =
+    more_reached _ _ _ _ conjunctions c.requires _ _ c.loop-next.invariant _ c.in-Some.ensures _ _ c.in_ok-right.ensures _ _ c.in_ok-compound.ensures
 
 pub conjunction-returns : goal.conjunction-returns
-conjunction-returns t c =
-    let asked = c.requires in
-    reached_end _ _ _ _ conjunctions asked _ (c.loop-whole.invariant _ asked c.negation-whole.ensures) (λ u. absurd (false≢true (sym c.loop-whole-test.false ∙ u)))
+conjunction-returns t c = reached_end _ _ _ _ conjunctions c.requires _ _ c.loop-next.invariant c.in_default.ensures
 
-pub disjunction-conjunction-whole-requires : goal.disjunction-conjunction-whole-requires
-disjunction-conjunction-whole-requires t c = (omega (arith, c.decreases), asks_one _ _ _ _ disjunctions c.requires)
+pub disjunction-conjunction-requires : goal.disjunction-conjunction-requires
+disjunction-conjunction-requires t c = (omega (arith, c.decreases), asks_one _ _ _ _ disjunctions c.requires)
 
-pub disjunction-loop-whole-init : goal.disjunction-loop-whole-init
-disjunction-loop-whole-init t c = λ p asked y. one_reached _ _ p _ disjunctions asked _ y
+pub disjunction-returns-in_err-whole : goal.disjunction-returns-in_err-whole
+disjunction-returns-in_err-whole t c = rw c.from_residual.ensures (one_exceeds _ _ _ _ disjunctions c.requires c.in_err-whole.ensures)
 
-pub disjunction-next_token-t-requires : goal.disjunction-next_token-t-requires
-disjunction-next_token-t-requires t c = (c.loop-whole.invariant _ c.requires c.conjunction-whole.ensures).inside
+pub disjunction-loop-next-init : goal.disjunction-loop-next-init
+disjunction-loop-next-init t c = one_reached _ _ _ _ disjunctions c.requires _ _ c.in_ok-whole.ensures
 
-pub disjunction-returns-then-t-ne-OR : goal.disjunction-returns-then-t-ne-OR
-unfolding code_of
-disjunction-returns-then-t-ne-OR t c =
-    let asked = c.requires in
-    reached_end _ _ _ _ disjunctions asked _ (c.loop-whole.invariant _ asked c.conjunction-whole.ensures) (λ u e. c.if-t-ne-OR.true (c.next_token-t.ensures.class_is ∙ e))
+pub disjunction-conjunction-requires-in-Some : goal.disjunction-conjunction-requires-in-Some
+disjunction-conjunction-requires-in-Some t c =
+    let was = c.loop-next.invariant in
+    let comes = c.in-Some.ensures in
+    (omega (arith, was.forward, comes.1, comes.2, c.decreases), asks_more _ _ _ _ disjunctions c.requires _ _ was _ comes)
 
-pub disjunction-conjunction-whole-requires-in-loop-whole : goal.disjunction-conjunction-whole-requires-in-loop-whole
-unfolding code_of
-disjunction-conjunction-whole-requires-in-loop-whole t c =
-    let k = c.next_token-t.ensures in
-    let was = c.loop-whole.invariant _ c.requires c.conjunction-whole.ensures in (
-      omega (arith, was.forward, token_forward _ _ _ k 3 c.if-t-ne-OR.false (omega arith), k.inside, c.decreases),
-      asks_more _ _ _ _ disjunctions c.requires _ was c.loop-whole-test.true _ k c.if-t-ne-OR.false,
-    )
+pub disjunction-returns-in_err-right : goal.disjunction-returns-in_err-right
+disjunction-returns-in_err-right t c =
+    rw c.from_residual-in_err-right.ensures (more_exceeds _ _ _ _ disjunctions c.requires _ _ c.loop-next.invariant _ c.in-Some.ensures c.in_err-right.ensures)
 
-pub disjunction-compound-whole-requires : goal.disjunction-compound-whole-requires
-disjunction-compound-whole-requires t c = c.conjunction-whole-in-loop-whole.ensures.sound
+pub disjunction-returns-in_err-compound : goal.disjunction-returns-in_err-compound
+disjunction-returns-in_err-compound t c =
+    rw c.from_residual-in_err-compound.ensures
+    (more_full _ _ _ _ disjunctions c.requires _ _ c.loop-next.invariant _ c.in-Some.ensures _ _ c.in_ok-right.ensures c.compound.new.self c.in_err-compound.ensures)
 
-pub disjunction-loop-whole-smaller : goal.disjunction-loop-whole-smaller
-disjunction-loop-whole-smaller t c =
-    let y = c.conjunction-whole-in-loop-whole.ensures in
-    omega (arith, made_next _ _ _ c.compound-whole.ensures, y.forward, y.inside, token_forward _ _ _ c.next_token-t.ensures 3 c.if-t-ne-OR.false (omega arith))
-
-pub disjunction-loop-whole-preserved : goal.disjunction-loop-whole-preserved
-unfolding code_of
-disjunction-loop-whole-preserved t c =
-    let k = c.next_token-t.ensures in
-    let on = token_forward _ _ _ k 3 c.if-t-ne-OR.false (omega arith) in
-    λ p asked y. more_reached _ _ p _ disjunctions asked _ (c.loop-whole.invariant p asked y) c.loop-whole-test.true _ k c.if-t-ne-OR.false _ _ on
-    c.conjunction-whole-in-loop-whole.ensures c.compound-whole.ensures
+pub disjunction-loop-next-preserved : goal.disjunction-loop-next-preserved
+disjunction-loop-next-preserved t c =
+    more_reached _ _ _ _ disjunctions c.requires _ _ c.loop-next.invariant _ c.in-Some.ensures _ _ c.in_ok-right.ensures _ _ c.in_ok-compound.ensures
 
 pub disjunction-returns : goal.disjunction-returns
-disjunction-returns t c =
-    let asked = c.requires in
-    reached_end _ _ _ _ disjunctions asked _ (c.loop-whole.invariant _ asked c.conjunction-whole.ensures) (λ u. absurd (false≢true (sym c.loop-whole-test.false ∙ u)))
+disjunction-returns t c = reached_end _ _ _ _ disjunctions c.requires _ _ c.loop-next.invariant c.in_default.ensures
 
-pub equivalence-implication-whole-requires : goal.equivalence-implication-whole-requires
-equivalence-implication-whole-requires t c = (omega (arith, c.decreases), asks_left _ _ _ _ equivalences c.requires)
+pub equivalence-implication-requires : goal.equivalence-implication-requires
+equivalence-implication-requires t c = (omega (arith, c.decreases), asks_left _ _ _ _ equivalences c.requires)
 
-pub equivalence-next_token-t-requires : goal.equivalence-next_token-t-requires
-equivalence-next_token-t-requires t c = c.implication-whole.ensures.inside
+pub equivalence-returns-in_err-left : goal.equivalence-returns-in_err-left
+equivalence-returns-in_err-left t c = rw c.from_residual.ensures (left_large _ _ _ _ equivalences c.requires c.in_err-left.ensures)
 
-pub equivalence-implication-whole-requires-then-t-eq-EQUALS : goal.equivalence-implication-whole-requires-then-t-eq-EQUALS
-unfolding code_of
-equivalence-implication-whole-requires-then-t-eq-EQUALS t c =
-    let y = c.implication-whole.ensures in
-    let k = c.next_token-t.ensures in (
-      omega (arith, y.forward, token_forward _ _ _ k 5 c.if-t-eq-EQUALS.true (omega arith), k.inside, c.decreases),
-      asks_right _ _ _ _ equivalences c.requires _ y c.if-whole.true _ k c.if-t-eq-EQUALS.true _ c.requires.near,
-    )
+pub equivalence-returns-in_default : goal.equivalence-returns-in_default
+equivalence-returns-in_default t c = left_only _ _ _ _ equivalences c.requires _ _ c.in_ok-left.ensures c.in_default.ensures
 
-pub equivalence-equivalence-whole-requires : goal.equivalence-equivalence-whole-requires
-equivalence-equivalence-whole-requires t c = c.implication-whole-then-t-eq-EQUALS.ensures.sound
+pub equivalence-implication-requires-2 : goal.equivalence-implication-requires-2
+equivalence-implication-requires-2 t c =
+    let was = c.in_ok-left.ensures in
+    let comes = c.in-Some.ensures in
+    (omega (arith, was.0, comes.1, comes.2, c.decreases), asks_right _ _ _ _ equivalences c.requires _ _ was _ comes _ c.requires.near)
 
-pub equivalence-returns-then-t-eq-EQUALS : goal.equivalence-returns-then-t-eq-EQUALS
-unfolding code_of
-equivalence-returns-then-t-eq-EQUALS t c =
-    let k = c.next_token-t.ensures in
-    joined _ _ _ _ equivalences c.requires _ c.implication-whole.ensures c.if-whole.true _ k c.if-t-eq-EQUALS.true _ (omega arith)
-    (token_forward _ _ _ k 5 c.if-t-eq-EQUALS.true (omega arith)) _ _ c.implication-whole-then-t-eq-EQUALS.ensures c.equivalence-whole.ensures
+pub equivalence-returns-in_err-right : goal.equivalence-returns-in_err-right
+equivalence-returns-in_err-right t c =
+    rw c.from_residual-in_err-right.ensures (right_large _ _ _ _ equivalences c.requires _ _ c.in_ok-left.ensures _ c.in-Some.ensures _ (omega arith) c.in_err-right.ensures)
 
-pub equivalence-returns-else-t-eq-EQUALS : goal.equivalence-returns-else-t-eq-EQUALS
-unfolding code_of
-equivalence-returns-else-t-eq-EQUALS t c =
-    left_only _ _ _ _ equivalences c.requires _ c.implication-whole.ensures (λ u e. c.if-t-eq-EQUALS.false (c.next_token-t.ensures.class_is ∙ e))
+pub equivalence-returns-in_err-equivalence : goal.equivalence-returns-in_err-equivalence
+equivalence-returns-in_err-equivalence t c =
+    rw c.from_residual-in_err-equivalence.ensures
+    (joined_full _ _ _ _ equivalences c.requires _ _ c.in_ok-left.ensures _ c.in-Some.ensures c.args.depth _ _ c.in_ok-right.ensures c.equivalence.new.self c.in_err-equivalence.ensures)
 
-pub equivalence-returns-else-whole : goal.equivalence-returns-else-whole
-equivalence-returns-else-whole t c =
-    left_only _ _ _ _ equivalences c.requires _ c.implication-whole.ensures (λ u. absurd (false≢true (sym c.if-whole.false ∙ u)))
+pub equivalence-returns : goal.equivalence-returns
+equivalence-returns t c = joined _ _ _ _ equivalences c.requires _ _ c.in_ok-left.ensures _ c.in-Some.ensures c.args.depth _ _ c.in_ok-right.ensures _ _ c.in_ok-equivalence.ensures
 
-pub implication-disjunction-whole-requires : goal.implication-disjunction-whole-requires
-implication-disjunction-whole-requires t c = (omega (arith, c.decreases), asks_left _ _ _ _ implications c.requires)
+pub implication-disjunction-requires : goal.implication-disjunction-requires
+implication-disjunction-requires t c = (omega (arith, c.decreases), asks_left _ _ _ _ implications c.requires)
 
-pub implication-next_token-t-requires : goal.implication-next_token-t-requires
-implication-next_token-t-requires t c = c.disjunction-whole.ensures.inside
+pub implication-returns-in_err-left : goal.implication-returns-in_err-left
+implication-returns-in_err-left t c = rw c.from_residual.ensures (left_large _ _ _ _ implications c.requires c.in_err-left.ensures)
+
+pub implication-returns-in_default : goal.implication-returns-in_default
+implication-returns-in_default t c = left_only _ _ _ _ implications c.requires _ _ c.in_ok-left.ensures c.in_default.ensures
 
 pub implication-returns-then-depth-eq-MOST_NAMES : goal.implication-returns-then-depth-eq-MOST_NAMES
-unfolding code_of
-implication-returns-then-depth-eq-MOST_NAMES t c =
-    deep_right _ _ _ _ implications c.requires _ c.disjunction-whole.ensures c.if-whole.true _ c.next_token-t.ensures c.if-t-eq-IMPLIES.true c.if-depth-eq-MOST_NAMES.true
+implication-returns-then-depth-eq-MOST_NAMES t c = deep_right _ _ _ _ implications c.requires _ _ c.in_ok-left.ensures _ c.in-Some.ensures c.if-depth-eq-MOST_NAMES.true
 
-pub implication-overflow_add-depth : goal.implication-overflow_add-depth
-implication-overflow_add-depth t c =
-    omega (arith, c.requires.near)
+pub implication-implication-requires : goal.implication-implication-requires
+implication-implication-requires t c =
+    let was = c.in_ok-left.ensures in
+    let comes = c.in-Some.ensures in
+    (omega (arith, was.0, comes.1, comes.2, c.decreases), asks_right _ _ _ _ implications c.requires _ _ was _ comes _ (omega (arith, c.requires.near, c.if-depth-eq-MOST_NAMES.false)))
 
-pub implication-implication-whole-requires : goal.implication-implication-whole-requires
-unfolding code_of
-implication-implication-whole-requires t c =
-    let y = c.disjunction-whole.ensures in
-    let k = c.next_token-t.ensures in (
-      omega (arith, y.forward, token_forward _ _ _ k 4 c.if-t-eq-IMPLIES.true (omega arith), k.inside, c.decreases),
-      asks_right _ _ _ _ implications c.requires _ y c.if-whole.true _ k c.if-t-eq-IMPLIES.true _ (omega (arith, c.requires.near, c.if-depth-eq-MOST_NAMES.false)),
-    )
+pub implication-returns-in_err-right : goal.implication-returns-in_err-right
+implication-returns-in_err-right t c =
+    rw c.from_residual-in_err-right.ensures (right_large _ _ _ _ implications c.requires _ _ c.in_ok-left.ensures _ c.in-Some.ensures _ (omega arith) c.in_err-right.ensures)
 
-pub implication-compound-whole-requires : goal.implication-compound-whole-requires
-implication-compound-whole-requires t c = c.implication-whole.ensures.sound
+pub implication-returns-in_err-compound : goal.implication-returns-in_err-compound
+implication-returns-in_err-compound t c =
+    rw c.from_residual-in_err-compound.ensures
+    (joined_full _ _ _ _ implications c.requires _ _ c.in_ok-left.ensures _ c.in-Some.ensures (c.args.depth + 1) _ _ c.in_ok-right.ensures c.compound.new.self c.in_err-compound.ensures)
 
-pub implication-returns-else-depth-eq-MOST_NAMES : goal.implication-returns-else-depth-eq-MOST_NAMES
-unfolding code_of
-implication-returns-else-depth-eq-MOST_NAMES t c =
-    let k = c.next_token-t.ensures in
-    joined _ _ _ _ implications c.requires _ c.disjunction-whole.ensures c.if-whole.true _ k c.if-t-eq-IMPLIES.true _ (omega arith)
-    (token_forward _ _ _ k 4 c.if-t-eq-IMPLIES.true (omega arith)) _ _ c.implication-whole.ensures c.compound-whole.ensures
-
-pub implication-returns-else-t-eq-IMPLIES : goal.implication-returns-else-t-eq-IMPLIES
-unfolding code_of
-implication-returns-else-t-eq-IMPLIES t c =
-    left_only _ _ _ _ implications c.requires _ c.disjunction-whole.ensures (λ u e. c.if-t-eq-IMPLIES.false (c.next_token-t.ensures.class_is ∙ e))
-
-pub implication-returns-else-whole : goal.implication-returns-else-whole
-implication-returns-else-whole t c =
-    left_only _ _ _ _ implications c.requires _ c.disjunction-whole.ensures (λ u. absurd (false≢true (sym c.if-whole.false ∙ u)))
-
-pub negation-next_token-t-requires : goal.negation-next_token-t-requires
-negation-next_token-t-requires t c = c.requires.inside
-
-pub negation-leaf-requires : goal.negation-leaf-requires
-negation-leaf-requires t c = c.requires.sound
+pub implication-returns : goal.implication-returns
+implication-returns t c = joined _ _ _ _ implications c.requires _ _ c.in_ok-left.ensures _ c.in-Some.ensures (c.args.depth + 1) _ _ c.in_ok-right.ensures _ _ c.in_ok-compound.ensures
 
 pub negation-returns-then-depth-eq-MOST_NAMES : goal.negation-returns-then-depth-eq-MOST_NAMES
-negation-returns-then-depth-eq-MOST_NAMES t c =
-    deep_not _ _ _ _ _ c.next_token-t.ensures c.requires c.if-t-eq-NOT.true c.if-depth-eq-MOST_NAMES.true _ c.leaf.ensures
-
-pub negation-overflow_add-depth : goal.negation-overflow_add-depth
-negation-overflow_add-depth t c = omega (arith, c.requires.near)
-
-pub negation-negation-operand-requires : goal.negation-negation-operand-requires
-negation-negation-operand-requires t c =
-    let k = c.next_token-t.ensures in (
-      omega (arith, token_forward _ _ _ k 7 c.if-t-eq-NOT.true (omega arith), k.inside, c.decreases),
-      asks_not _ _ _ _ _ k c.requires c.if-t-eq-NOT.true (omega (arith, c.requires.near, c.if-depth-eq-MOST_NAMES.false)),
-    )
+negation-returns-then-depth-eq-MOST_NAMES t c = deep_not _ _ _ _ _ c.next_token-t.ensures c.requires (ap decode c.in-Not.is) c.if-depth-eq-MOST_NAMES.true
 
 pub negation-negation-requires : goal.negation-negation-requires
-negation-negation-requires t c = c.negation-operand.ensures.sound
-
-pub negation-returns-then-t-eq-NOT : goal.negation-returns-then-t-eq-NOT
-negation-returns-then-t-eq-NOT t c =
-    not_gives _ _ _ _ _ c.next_token-t.ensures c.requires c.if-t-eq-NOT.true _ _ c.negation-operand.ensures c.negation.ensures
-
-pub negation-equivalence-inner-requires : goal.negation-equivalence-inner-requires
-negation-equivalence-inner-requires t c =
-    let k = c.next_token-t.ensures in (
-      omega (arith, token_forward _ _ _ k 8 c.if-t-eq-OPENING.true (omega arith), k.inside, c.decreases),
-      asks_inner _ _ _ _ _ k c.if-t-eq-OPENING.true c.requires,
+negation-negation-requires t c =
+    let k = c.next_token-t.ensures in
+    let not = ap decode c.in-Not.is in (
+      omega (arith, k.forward (λ e. cc), k.inside, c.decreases),
+      asks_not _ _ _ _ _ k c.requires not (omega (arith, c.requires.near, c.if-depth-eq-MOST_NAMES.false)),
     )
 
-pub negation-next_token-close-requires : goal.negation-next_token-close-requires
-negation-next_token-close-requires t c = c.equivalence-inner.ensures.inside
+pub negation-returns-in_err-operand-in-Not : goal.negation-returns-in_err-operand-in-Not
+negation-returns-in_err-operand-in-Not t c =
+    rw c.from_residual.ensures (not_large _ _ _ _ _ c.next_token-t.ensures c.requires (ap decode c.in-Not.is) c.in_err-operand-in-Not.ensures)
 
-pub negation-past_spaces-requires : goal.negation-past_spaces-requires
-negation-past_spaces-requires t c = c.next_token-close.ensures.inside
+pub negation-returns-in_err-negation-in-Not : goal.negation-returns-in_err-negation-in-Not
+negation-returns-in_err-negation-in-Not t c =
+    rw c.from_residual-in_err-negation-in-Not.ensures
+    (not_full _ _ _ _ _ c.next_token-t.ensures c.requires (ap decode c.in-Not.is) _ _ c.in_ok-operand-in-Not.ensures c.negation-in-Not.new.self c.in_err-negation-in-Not.ensures)
 
-pub negation-returns-then-t-eq-OPENING : goal.negation-returns-then-t-eq-OPENING
-negation-returns-then-t-eq-OPENING t c =
-    inner_gives _ _ _ _ _ c.next_token-t.ensures c.if-t-eq-OPENING.true _ c.equivalence-inner.ensures _ c.next_token-close.ensures _ c.past_spaces.ensures
+pub negation-returns-in_ok-negation-in-Not : goal.negation-returns-in_ok-negation-in-Not
+negation-returns-in_ok-negation-in-Not t c =
+    not_gives _ _ _ _ _ c.next_token-t.ensures c.requires (ap decode c.in-Not.is) _ _ c.in_ok-operand-in-Not.ensures _ _ c.in_ok-negation-in-Not.ensures
 
-pub negation-past_spaces-requires-2 : goal.negation-past_spaces-requires-2
-negation-past_spaces-requires-2 t c = c.next_token-t.ensures.inside
+pub negation-equivalence-requires : goal.negation-equivalence-requires
+negation-equivalence-requires t c =
+    let k = c.next_token-t.ensures in
+    let opens = ap decode c.in-Opening.is in
+    (omega (arith, k.forward (λ e. cc), k.inside, c.decreases), asks_inner _ _ _ _ _ k opens c.requires)
 
-pub negation-leaf-requires-2 : goal.negation-leaf-requires-2
-negation-leaf-requires-2 t c = c.requires.sound
+pub negation-returns-in_err-inner-in-Opening : goal.negation-returns-in_err-inner-in-Opening
+negation-returns-in_err-inner-in-Opening t c =
+    rw c.from_residual-in_err-inner-in-Opening.ensures (inner_large _ _ c.args.parts.now _ _ c.next_token-t.ensures (ap decode c.in-Opening.is) c.in_err-inner-in-Opening.ensures)
 
-pub negation-returns : goal.negation-returns
-negation-returns t c =
-    leaf_gives _ _ _ _ _ c.next_token-t.ensures c.requires c.if-t-eq-NOT.false c.if-t-eq-OPENING.false _ c.past_spaces-2.ensures _ c.leaf-2.ensures
+pub negation-returns-in_ok-inner-in-Opening : goal.negation-returns-in_ok-inner-in-Opening
+negation-returns-in_ok-inner-in-Opening t c =
+    inner_gives _ _ c.args.parts.now c.args.depth _ c.next_token-t.ensures (ap decode c.in-Opening.is) _ _ c.in_ok-inner-in-Opening.ensures _ c.next_token-close.ensures _ c.past_spaces.ensures
+
+pub negation-returns-in-Letter : goal.negation-returns-in-Letter
+negation-returns-in-Letter t c =
+    let k = c.next_token-t.ensures in
+    let p = c.args.parts.now in
+    leaf_gives _ _ p c.args.depth _ k _ (letter_leaf _ _ p c.args.depth _ k _ (ap decode c.in-Letter.is)) (begun _ _ p c.args.depth _ k c.requires) _ _ c.leaf.ensures
+
+pub negation-returns-in_default : goal.negation-returns-in_default
+negation-returns-in_default t c =
+    let k = c.next_token-t.ensures in
+    let p = c.args.parts.now in
+    let no = c.in_default in
+    let leaf = falsum_leaf _ _ p c.args.depth _ k (λ l e. no.not-Letter l (same_class _ (class.Letter l) e)) (λ e. no.not-Not (same_class _ class.Not e))
+    (λ e. no.not-Opening (same_class _ class.Opening e)) in
+    leaf_gives _ _ p c.args.depth _ k _ leaf (begun _ _ p c.args.depth _ k c.requires) _ _ c.leaf-in_default.ensures

@@ -1,9 +1,6 @@
 -- The cycle of calls of the reader functions: the bytes left fall. Each answer cites a law of Operand or Grouped.
 use Prim.Native.Nat.{◌+◌, ◌-◌, ◌*◌}
 use lib.ListN.{length}
-use Rattle.syntax.specs.Grammar.{Level}
-use Rattle.syntax.specs.Descent.{Asks, Gives}
-use Rattle.syntax.specs.declared.Parts.{Parts}
 use Rattle.syntax.proofs.Grouped.{conjunctions, disjunctions, Reached}
 use Rattle.syntax.proofs.descent.+conjunction_disjunction_equivalence_implication_negation.Given as goal
 
@@ -23,14 +20,14 @@ decreases-implication l = 5 * (length l.s.now - l.at) + 4
 abbrev pub decreases-negation : goal.decreases-negation
 decreases-negation l = 5 * (length l.s.now - l.at) + 1
 
-abbrev pub invariant-conjunction-loop-whole : goal.invariant-conjunction-loop-whole
-invariant-conjunction-loop-whole l = (p : Parts) → Asks Level.conjunction l.s l.at p l.depth → Gives Level.negation l.s l.at p l.depth l.initial.whole → Reached l.s l.at p l.depth conjunctions l.whole
+abbrev pub invariant-conjunction-loop-next : goal.invariant-conjunction-loop-next
+invariant-conjunction-loop-next l = Reached l.s l.at l.fn.parts l.depth conjunctions l.parts l.whole
 
-abbrev pub decreases-conjunction-loop-whole : goal.decreases-conjunction-loop-whole
-decreases-conjunction-loop-whole l = length l.s - l.whole.next
+abbrev pub decreases-conjunction-loop-next : goal.decreases-conjunction-loop-next
+decreases-conjunction-loop-next l = length l.s - l.whole.next
 
-abbrev pub invariant-disjunction-loop-whole : goal.invariant-disjunction-loop-whole
-invariant-disjunction-loop-whole l = (p : Parts) → Asks Level.disjunction l.s l.at p l.depth → Gives Level.conjunction l.s l.at p l.depth l.initial.whole → Reached l.s l.at p l.depth disjunctions l.whole
+abbrev pub invariant-disjunction-loop-next : goal.invariant-disjunction-loop-next
+invariant-disjunction-loop-next l = Reached l.s l.at l.fn.parts l.depth disjunctions l.parts l.whole
 
-abbrev pub decreases-disjunction-loop-whole : goal.decreases-disjunction-loop-whole
-decreases-disjunction-loop-whole l = length l.s - l.whole.next
+abbrev pub decreases-disjunction-loop-next : goal.decreases-disjunction-loop-next
+decreases-disjunction-loop-next l = length l.s - l.whole.next

@@ -1,40 +1,48 @@
--- By the tests on the way.
+-- By the class.
+use mathlib.Core.Bool.{true≢false}
+use mathlib.Core.Logic.{inl, inr}
 use mathlib.Core.Path.{sym, ◌∙◌}
-use Rattle.syntax.specs.Code.{code_of}
-use Rattle.syntax.proofs.Fault.{blank_turn, not_turn, leaf_turn, wanted_misfit, binary_turn, had_misfit}
+use Rattle.syntax.specs.Scan.{move}
+use Rattle.syntax.proofs.Fault.{wanted_misfit, had_misfit}
 use Rattle.syntax.proofs.scan.step.Goals as goal
+use Rattle.syntax.proofs.scan.step.Goals.{in-Falsum, in_default, in-And, in_default-matches}
 
-pub returns-then-class-eq-BLANK : goal.returns-then-class-eq-BLANK
-returns-then-class-eq-BLANK c = blank_turn _ _ c.if-class-eq-BLANK.true
+pub returns-then-matches : goal.returns-then-matches
+unfolding move
+returns-then-matches c = elim c.match-matches.branch [
+  | in-Falsum w ↦ elim w.in-Falsum.is [ inl e ↦ rw (c.if-operand.true, e) | inr (l, e) ↦ rw (c.if-operand.true, e) ]
+  | in_default w ↦ absurd (true≢false (sym c.if-matches.true ∙ w.matches-is))
+]
 
-pub returns-then-class-eq-NOT : goal.returns-then-class-eq-NOT
-returns-then-class-eq-NOT c = rw c.if-operand.true (not_turn _ _ _ c.if-class-eq-NOT.true)
+pub returns-in-Blank : goal.returns-in-Blank
+unfolding move
+returns-in-Blank c = elim c.in-Blank.is [ inl e ↦ rw (c.if-operand.true, e) | inr e ↦ rw (c.if-operand.true, e) ]
 
-pub opened-requires : goal.opened-requires
-unfolding code_of
-opened-requires c = c.requires c.if-class-eq-OPENING.true
+pub returns-in_default-class : goal.returns-in_default-class
+returns-in_default-class c =
+    let no = c.in_default-class in
+    elim c.match-matches.branch [
+      | in-Falsum w ↦ absurd (true≢false (sym w.matches-is ∙ c.if-matches.false))
+      | in_default w ↦ let nor = w.in_default in
+          rw c.if-operand.true (wanted_misfit _ _ _ no.not-Blank no.not-Not no.not-Opening nor.not-Falsum nor.not-Letter)
+    ]
 
-pub returns-then-class-eq-OPENING : goal.returns-then-class-eq-OPENING
-returns-then-class-eq-OPENING c = rw (c.if-operand.true, c.if-class-eq-OPENING.true) c.opened.ensures
+pub returns-then-matches-2 : goal.returns-then-matches-2
+unfolding move
+returns-then-matches-2 c = elim c.match-matches-2.branch [
+  | in-And w ↦ elim w.in-And.is [ inl e ↦ rw (c.if-operand.false, e) | inr (inl e) ↦ rw (c.if-operand.false, e) | inr (inr e) ↦ rw (c.if-operand.false, e) ]
+  | in_default-matches w ↦ absurd (true≢false (sym c.if-matches-2.true ∙ w.matches-is))
+]
 
-pub returns-then-is_leaf : goal.returns-then-is_leaf
-returns-then-is_leaf c =
-    rw c.if-operand.true (leaf_turn _ _ c.args.class (sym c.is_leaf.ensures ∙ c.if-is_leaf.true))
+pub returns-in-Blank-class : goal.returns-in-Blank-class
+unfolding move
+returns-in-Blank-class c = rw (c.if-operand.false, c.in-Blank-class.is)
 
-pub returns-then-operand : goal.returns-then-operand
-returns-then-operand c =
-    rw c.if-operand.true (wanted_misfit _ _ _ c.if-class-eq-BLANK.false c.if-class-eq-NOT.false c.if-class-eq-OPENING.false (sym c.is_leaf.ensures ∙ c.if-is_leaf.false))
-
-pub returns-then-class-eq-CLOSING : goal.returns-then-class-eq-CLOSING
-returns-then-class-eq-CLOSING c = rw (c.if-operand.false, c.if-class-eq-CLOSING.true) c.closed.ensures
-
-pub returns-then-class-eq-EQUALS : goal.returns-then-class-eq-EQUALS
-returns-then-class-eq-EQUALS c = rw (c.if-operand.false, c.if-class-eq-EQUALS.true) c.equated.ensures
-
-pub returns-then-is_binary : goal.returns-then-is_binary
-returns-then-is_binary c =
-    rw c.if-operand.false (binary_turn _ _ c.args.class c.if-class-eq-EQUALS.false (sym c.is_binary.ensures ∙ c.if-is_binary.true))
-
-pub returns : goal.returns
-returns c =
-    rw c.if-operand.false (had_misfit _ _ _ c.if-class-eq-BLANK.false c.if-class-eq-CLOSING.false (sym c.is_binary.ensures ∙ c.if-is_binary.false))
+pub returns-in_default-class-2 : goal.returns-in_default-class-2
+returns-in_default-class-2 c =
+    let no = c.in_default-class-2 in
+    elim c.match-matches-2.branch [
+      | in-And w ↦ absurd (true≢false (sym w.matches-is ∙ c.if-matches-2.false))
+      | in_default-matches w ↦ let nor = w.in_default-matches in
+          rw c.if-operand.false (had_misfit _ _ _ no.not-Blank no.not-Closing no.not-Equals nor.not-And nor.not-Or nor.not-Implies)
+    ]

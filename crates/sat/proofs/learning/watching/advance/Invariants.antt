@@ -1,9 +1,6 @@
--- Each turn takes one of the fuel.
+-- Each turn visits one place.
 use Rattle.std.proofs.Common.{◌≡◌, length}
 use Rattle.sat.proofs.learning.watching.advance.Given as goal
 
-abbrev pub invariant-loop-fuel : goal.invariant-loop-fuel
-invariant-loop-fuel l = length l.notes ≡ length l.initial.notes
-
-abbrev pub decreases-loop-fuel : goal.decreases-loop-fuel
-decreases-loop-fuel l = l.fuel
+abbrev pub invariant-loop : goal.invariant-loop
+invariant-loop l = length l.notes ≡ length l.initial.notes

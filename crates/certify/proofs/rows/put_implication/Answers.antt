@@ -1,7 +1,0 @@
--- Three bytes.
-use Rattle.certify.proofs.Parts.{implication_put}
-use Rattle.certify.proofs.rows.put_implication.Goals as goal
-
-pub returns : goal.returns
-returns c =
-    implication_put _ _ _ _ _ _ _ _ c.requires c.put_byte.ensures c.put_byte-2.ensures c.put_byte-3.ensures

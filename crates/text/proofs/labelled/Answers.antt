@@ -1,6 +1,0 @@
--- The label, then the number.
-use Rattle.text.proofs.Appending.{both}
-use Rattle.text.proofs.labelled.Goals as goal
-
-pub returns : goal.returns
-returns c = both c.word-end.ensures c.set.ensures
