@@ -38,7 +38,7 @@ extern "C" {
 
    The input is any bytes. A pointer may be null only with length 0; the input and the output must not overlap. Nothing is kept between
    calls, and several threads may call at once.
-   The deepest text needs 216 kB of stack: give a thread that calls 512 kB. */
+   The deepest text needs 216 kB of stack, one whose questions learn 312 kB: give a thread that calls 512 kB. */
 size_t zestanchor(uint8_t task, const uint8_t *input, size_t input_length, uint8_t *output, size_t output_length);
 
 #ifdef __cplusplus

@@ -1,5 +1,6 @@
 -- The machine's words of 64 bits against the definitions: what the proofs of the functions cite.
 use mathlib.Core.Path.{◌≡◌, refl, sym, ap, ◌∙◌, subst}
+use mathlib.Core.Bool.{Bool}
 use mathlib.Core.List.{List}
 use Prim.Native.Nat.{ℕ, suc, ◌+◌, ◌-◌, ◌*◌, ◌^◌, ◌%◌, ◌≤◌, ◌<◌, min}
 use native.Mathlib.Decide.{dec_lt}
@@ -37,7 +38,10 @@ unfolding num
 num_empty = refl
 
 -- The derived test of two sets is that of their numbers.
-pub same_sets : (a b : AtomSet) → eqb a.bits b.bits ≡ eqb (num a) (num b)
+abbrev pub derived_same : AtomSet → AtomSet → Bool
+derived_same a b = eqb a.bits b.bits
+
+pub same_sets : (a b : AtomSet) → derived_same a b ≡ eqb (num a) (num b)
 unfolding num
 same_sets a b = refl
 

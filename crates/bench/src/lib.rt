@@ -3,7 +3,7 @@
 
 ghost use Rattle.std.specs.Prelude.{◌≡◌, ◌/◌, ◌<◌, length};
 ghost use Rattle.prover.specs.Told.{changed, number_in};
-ghost use Rattle.prover.specs.Calls.{flat_of};
+ghost use Rattle.prover.specs.Calls.{flat_of, Opened};
 ghost use Rattle.bench.specs.Exported.{Asked};
 ghost use Rattle.bench.specs.Calls.{one_if_refused, QuestionPut, act, act_at, Called, refusals};
 
@@ -39,6 +39,14 @@ fn one_if_refused(r: Result<(), Refusal>) -> u64
     u64::from(r.is_err())
 }
 
+fn open(s: &mut Session, n: u8) -> Result<(), Refusal>
+    ensures { Opened n (changed result s.new) }
+{
+    let opening = Session::open(n);
+    *s = opening.session;
+    opening.opened
+}
+
 fn ask(s: &mut Session, goal: u8) -> Result<(), Refusal>
     ensures { QuestionPut s.old goal (changed result s.new) }
 {
@@ -59,7 +67,7 @@ fn call(
     ensures { Called s.old (act kind a b c (flat_of left right)) (changed result s.new) }
 {
     match kind {
-        0 => s.open(a),
+        0 => open(s, a),
         1 => s.add_flat(left, right),
         2 => s.add_implication(Implication { a, b, c }),
         _ => ask(s, a),

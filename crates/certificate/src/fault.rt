@@ -2,6 +2,8 @@
 ghost use Rattle.std.specs.Prelude.{◌≡◌};
 ghost use Rattle.certificate.specs.Faults.{number_of, place_of};
 
+use refusal::Refused;
+
 #[derive(Clone, Copy, Debug, PartialEq, Eq, Hash)]
 pub enum Fault {
     // The bytes break the layout,
@@ -34,5 +36,19 @@ impl Fault {
             Fault::Wrong(place) => Some(place),
             _ => None,
         }
+    }
+}
+
+impl Refused for Fault {
+    ghost told_number = { number_of };
+
+    ghost told_place = { place_of };
+
+    fn number(self) -> u8 {
+        Fault::number(self)
+    }
+
+    fn place(self) -> Option<usize> {
+        Fault::place(self)
     }
 }

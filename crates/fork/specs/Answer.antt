@@ -1,5 +1,5 @@
 -- What the call answers, and that it is right.
-use Rattle.std.specs.Prelude.{Bool, List, [], ◌∷◌, ◌⊎◌, ◌↔◌, ◌≡◌, ℕ, ◌≤◌, ◌<◌, length, take, Result, Ok, Err}
+use Rattle.std.specs.Prelude.{Bool, List, [], ◌∷◌, ◌⊎◌, ◌↔◌, ◌≡◌, ℕ, ◌≤◌, ◌<◌, length, take, Option, Result, Ok, Err}
 use Rattle.std.specs.Option.{unwrap_or}
 use Rattle.ipl.specs.Lists.{All}
 use Rattle.ipl.specs.Formula.{Formula}
@@ -22,9 +22,13 @@ abbrev pub told_of : Screened → Screening
 told_of Passes = passes
 told_of (Falls sets) = falls (sets_of sets)
 
+-- By what a refusal of any type tells.
+abbrev pub told_with : {E : Type 0} → (E → ℕ) → (E → Option ℕ) → Result Screened E → Screening
+told_with number place (Err e) = refused (number e) (unwrap_or (place e) 0)
+told_with number place (Ok r) = told_of r
+
 abbrev pub told : Result Screened Refusal → Screening
-told (Err e) = refused (number_of e) (unwrap_or (place_of e) 0)
-told (Ok r) = told_of r
+told = told_with number_of place_of
 
 abbrev pub ScreenedAs : Screening → Result Screened Refusal → Type 0
 ScreenedAs o r = told r ≡ o

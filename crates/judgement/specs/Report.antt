@@ -1,5 +1,5 @@
 -- What is printed of a judged certificate (document 01: an answer sheet).
-use Rattle.std.specs.Prelude.{Bool, true, false, List, ◌++◌, ◌⊎◌, ◌≡◌, ℕ, ◌≤◌, eqb, length, Result, Ok, Err}
+use Rattle.std.specs.Prelude.{Bool, true, false, List, ◌++◌, ◌⊎◌, ◌≡◌, ℕ, ◌≤◌, eqb, length, Option, Result, Ok, Err}
 use Rattle.certificate.specs.Certificate as certificate
 use Rattle.certificate.specs.Certificate.{Claim, Judgement}
 use Rattle.certificate.specs.Faults.{number_of, place_of}
@@ -29,9 +29,13 @@ abbrev pub check_report : Judgement → List ℕ
 check_report (certificate.accepted p c) = accepted_claim c
 check_report (certificate.refused number place) = sheet_refusal number place
 
+-- By what a refusal of any type tells.
+abbrev pub check_report_with : {E : Type 0} → (E → ℕ) → (E → Option ℕ) → Result Contents E → List ℕ
+check_report_with number place (Ok k) = accepted_line k.refuting
+check_report_with number place (Err e) = sheet_refusal (number e) (place_or_zero (place e))
+
 abbrev pub check_report_of : Result Contents Fault → List ℕ
-check_report_of (Ok k) = accepted_line k.refuting
-check_report_of (Err fault) = sheet_refusal (number_of fault) (place_or_zero (place_of fault))
+check_report_of = check_report_with number_of place_of
 
 -- Of a certificate that begins with s, and `more` bytes after it.
 pub record Judged (s : List ℕ) (more : ℕ) (entry exit : List ℕ) (r : ℕ) : Type 0 where

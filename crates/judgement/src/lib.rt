@@ -2,9 +2,10 @@
 #![tactic(auto)]
 
 ghost use Rattle.text.specs.Output.{Appends};
-ghost use Rattle.judgement.specs.Report.{accepted_line, check_report_of, Judged};
+ghost use Rattle.judgement.specs.Report.{accepted_line, check_report_with, Judged};
 
-use certificate::{Contents, Fault};
+use certificate::Contents;
+use refusal::Refused;
 use text::Draft;
 
 #[tactic(auto, unfolding(crate::specs::Report::accepted_line, text::specs::Text::ascii))]
@@ -19,12 +20,17 @@ fn write_accepted(draft: &mut Draft, refuting: bool)
 }
 
 // Writes the line of a judged certificate. A refusal has a place where it is of the claim.
-pub fn write(draft: &mut Draft, checked: Result<Contents, Fault>)
-    ensures { Appends (check_report_of checked) draft.old draft.new }
+#[tactic(auto, unfolding(text::specs::Text::refusal))]
+pub fn write<E: Refused>(draft: &mut Draft, checked: Result<Contents, E>)
+    ensures { Appends (check_report_with E.told_number E.told_place checked) draft.old draft.new }
 {
     match checked {
         Ok(contents) => write_accepted(draft, contents.refuting),
-        Err(fault) => draft.refusal(fault.number(), fault.place()),
+        Err(refusal) => {
+            let number = refusal.number();
+            let place = refusal.place().unwrap_or(0);
+            draft.refusal(number, (number == 16).then_some(place));
+        }
     }
 }
 
@@ -36,5 +42,6 @@ pub fn judge(bytes: &[u8], more: usize, output: &mut [u8]) -> usize
     let mut buffer = [0u8; text::DRAFT];
     let mut draft = Draft::new(&mut buffer);
     write(&mut draft, certificate::check_beginning(bytes, more));
-    draft.hand_over(output)
+    let n = draft.len();
+    text::hand_over(&buffer, n, output)
 }

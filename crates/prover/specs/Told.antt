@@ -17,10 +17,14 @@ pub data Told : Type 0 where
 abbrev pub place_told : Option ℕ → ℕ
 place_told o = unwrap_or o 0
 
+-- By what a refusal of any type tells.
+abbrev pub told_with : {E : Type 0} → (E → ℕ) → (E → Option ℕ) → Result Verdict E → Told
+told_with number place (Ok (verdict.Valid steps)) = Valid steps
+told_with number place (Ok (verdict.Refuted worlds)) = Refuted worlds
+told_with number place (Err e) = Refused (number e) (place_told (place e))
+
 abbrev pub told : Result Verdict Refusal → Told
-told (Ok (verdict.Valid steps)) = Valid steps
-told (Ok (verdict.Refuted worlds)) = Refuted worlds
-told (Err e) = Refused (number_of e) (place_told (place_of e))
+told = told_with number_of place_of
 
 -- The number of a refusal, or 0.
 abbrev pub number_in : {T : Type 0} → Result T Refusal → ℕ

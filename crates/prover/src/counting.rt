@@ -41,7 +41,7 @@ impl Authors {
     }
 
     // The author's row; an empty one where there is no such author.
-    pub(super) fn work_of(&self, author: u8) -> Work
+    pub fn work_of(&self, author: u8) -> Work
         ensures { result ≡ work_at (works_of self.now) author }
     {
         let at = usize::from(author);

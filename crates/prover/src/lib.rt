@@ -105,6 +105,13 @@ pub struct Session {
     pub authors: Authors,
 }
 
+// What an opening gave: a session in any case, so that the caller's own stays.
+#[derive(Clone, Copy)]
+pub struct Opening {
+    pub opened: Result<(), Refusal>,
+    pub session: Session,
+}
+
 // Valid, with the count of steps held; or refuted, with the count of worlds.
 #[derive(Clone, Copy, Debug, PartialEq, Eq)]
 pub enum Verdict {
@@ -147,15 +154,19 @@ impl Session {
     }
 
     // The empty session of n atoms. Refused 5: that of one atom.
-    pub fn open(&mut self, n: u8) -> Result<(), Refusal>
-        ensures { Opened n (changed result self.new) }
+    pub fn open(n: u8) -> Opening
+        ensures { Opened n (changed result.opened result.session) }
     {
         if !ipl::count_in_range(n) {
-            *self = additions::empty(1);
-            return Err(Refusal::Range);
+            return Opening {
+                opened: Err(Refusal::Range),
+                session: additions::empty(1),
+            };
         }
-        *self = additions::empty(n);
-        Ok(())
+        Opening {
+            opened: Ok(()),
+            session: additions::empty(n),
+        }
     }
 
     // Adds a flat clause. Refused 5, 6, 7: the session stays as it was.

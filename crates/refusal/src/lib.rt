@@ -1,8 +1,21 @@
 // The refusals of a text and of a call, by their numbers in documents 01 and 02.
 #![tactic(auto)]
 
-ghost use Rattle.std.specs.Prelude.{◌≡◌};
+ghost use Rattle.std.specs.Prelude.{◌≡◌, ℕ, Option};
 ghost use Rattle.refusal.specs.Numbers.{number_of, place_of};
+
+// What can be printed as a refusal: it tells a number, and a place where it has one.
+pub trait Refused: Copy {
+    ghost told_number: { Self → ℕ };
+
+    ghost told_place: { Self → Option ℕ };
+
+    fn number(self) -> u8
+        ensures { result ≡ told_number self };
+
+    fn place(self) -> Option<usize>
+        ensures { result ≡ told_place self };
+}
 
 #[derive(Clone, Copy, Debug, PartialEq, Eq, Hash)]
 pub enum Refusal {
@@ -78,5 +91,40 @@ impl Refusal {
             Refusal::Form(place) => Some(place),
             _ => None,
         }
+    }
+}
+
+impl Refused for Refusal {
+    ghost told_number = { number_of };
+
+    ghost told_place = { place_of };
+
+    fn number(self) -> u8 {
+        Refusal::number(self)
+    }
+
+    fn place(self) -> Option<usize> {
+        Refusal::place(self)
+    }
+}
+
+// A refusal by any number.
+#[derive(Clone, Copy, Debug, PartialEq, Eq)]
+pub struct Numbered {
+    pub number: u8,
+    pub place: Option<usize>,
+}
+
+impl Refused for Numbered {
+    ghost told_number = { λ r. r.number };
+
+    ghost told_place = { λ r. r.place };
+
+    fn number(self) -> u8 {
+        self.number
+    }
+
+    fn place(self) -> Option<usize> {
+        self.place
     }
 }

@@ -3,13 +3,13 @@
 
 ghost use Rattle.std.specs.Prelude.{length};
 ghost use Rattle.prover.specs.State.{steps_of, worlds_of};
-ghost use Rattle.prover.specs.Told.{told};
+ghost use Rattle.prover.specs.Told.{told_with};
 ghost use Rattle.report.specs.Report.{valid_report, refuted_report, report_with, report_of};
 ghost use Rattle.text.specs.Output.{Appends, Reported};
 
 use clausify::Settled;
 use prover::{Session, Verdict};
-use refusal::Refusal;
+use refusal::Refused;
 use text::Draft;
 
 mod lines;
@@ -35,13 +35,23 @@ fn write_refuted(draft: &mut Draft, s: &Session, questions: u32)
 }
 
 // Writes the report of a verdict or a refusal, and of the session that holds it, with so many questions.
-pub fn write(draft: &mut Draft, verdict: Result<Verdict, Refusal>, s: &Session, questions: u32)
-    ensures { Appends (report_with questions (told verdict) s.now) draft.old draft.new }
+#[tactic(auto, unfolding(text::specs::Text::refusal))]
+pub fn write<E: Refused>(
+    draft: &mut Draft,
+    verdict: Result<Verdict, E>,
+    s: &Session,
+    questions: u32,
+)
+    ensures { Appends (report_with questions (told_with E.told_number E.told_place verdict) s.now) draft.old draft.new }
 {
     match verdict {
         Ok(Verdict::Valid(_)) => write_valid(draft, s, questions),
         Ok(Verdict::Refuted(_)) => write_refuted(draft, s, questions),
-        Err(refusal) => draft.refusal(refusal.number(), refusal.place()),
+        Err(refusal) => {
+            let number = refusal.number();
+            let place = refusal.place().unwrap_or(0);
+            draft.refusal(number, (number == 3).then_some(place));
+        }
     }
 }
 
@@ -54,5 +64,6 @@ pub fn report(settled: &Settled, output: &mut [u8]) -> usize
     let session = &settled.session;
     let questions = session.work_of(ipl::PROGRAM).questions;
     write(&mut draft, settled.verdict, session, questions);
-    draft.hand_over(output)
+    let n = draft.len();
+    text::hand_over(&buffer, n, output)
 }

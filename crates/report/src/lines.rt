@@ -42,21 +42,27 @@ fn byte_at(table: &[u8], i: usize) -> u8
     table.get(i).copied().unwrap_or(0)
 }
 
-// A line for each step.
+// A line for each step; none once the draft is full.
 pub fn steps(draft: &mut Draft, table: &Steps)
     ensures { Appends (each step_line (steps_of table.now)) draft.old draft.new }
 {
     for i in 0..table.count {
+        if draft.is_full() {
+            return;
+        }
         let number = byte_at(&table.numbers, i);
         step(draft, number, atoms::row(&table.assumed, i));
     }
 }
 
-// A line for each world.
+// A line for each world; none once the draft is full.
 pub fn worlds(draft: &mut Draft, table: &Worlds)
     ensures { Appends (each world_line (worlds_of table.now)) draft.old draft.new }
 {
     for i in 0..table.count {
+        if draft.is_full() {
+            return;
+        }
         world(draft, atoms::row(&table.sets, i));
     }
 }

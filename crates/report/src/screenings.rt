@@ -1,11 +1,11 @@
 // What is printed of a screened text.
 ghost use Rattle.certificate.specs.Format.{each};
-ghost use Rattle.fork.specs.Answer.{sets_of};
-ghost use Rattle.report.specs.Screening.{set_figure, falls_line, screened_line, screen_line};
+ghost use Rattle.fork.specs.Answer.{sets_of, told_with};
+ghost use Rattle.report.specs.Screening.{set_figure, falls_line, screening_line, screen_line};
 ghost use Rattle.text.specs.Output.{Appends, Gives};
 
 use fork::{LetterSets, Screened};
-use refusal::Refusal;
+use refusal::Refused;
 use text::Draft;
 
 // The number of each set.
@@ -26,12 +26,16 @@ fn write_falls(draft: &mut Draft, sets: &LetterSets)
 }
 
 // Writes the line of a screened text.
-#[tactic(auto, unfolding(crate::specs::Screening::passes_line, text::specs::Text::ascii))]
-pub fn write(draft: &mut Draft, screened: Result<Screened, Refusal>)
-    ensures { Appends (screened_line screened) draft.old draft.new }
+#[tactic(auto, unfolding(crate::specs::Screening::passes_line, text::specs::Text::ascii, text::specs::Text::refusal))]
+pub fn write<E: Refused>(draft: &mut Draft, screened: Result<Screened, E>)
+    ensures { Appends (screening_line (told_with E.told_number E.told_place screened)) draft.old draft.new }
 {
     match screened {
-        Err(refusal) => draft.refusal(refusal.number(), refusal.place()),
+        Err(refusal) => {
+            let number = refusal.number();
+            let place = refusal.place().unwrap_or(0);
+            draft.refusal(number, (number == 3).then_some(place));
+        }
         Ok(Screened::Passes) => draft.word(b"passes\n"),
         Ok(Screened::Falls(sets)) => write_falls(draft, &sets),
     }
@@ -44,5 +48,6 @@ pub fn screen(text: &[u8], output: &mut [u8]) -> usize
     let mut buffer = [0u8; text::DRAFT];
     let mut draft = Draft::new(&mut buffer);
     write(&mut draft, fork::screen(text));
-    draft.hand_over(output)
+    let n = draft.len();
+    text::hand_over(&buffer, n, output)
 }

@@ -6,7 +6,7 @@ use Rattle.atoms.specs.Sets.{limit, union, meets}
 use Rattle.atoms.specs.Words.{num}
 use Rattle.atoms.specs.declared.AtomSet.{AtomSet}
 use Rattle.atoms.proofs.Bits.{bits_le}
-use Rattle.atoms.proofs.Machine.{same_sets}
+use Rattle.atoms.proofs.Machine.{derived_same, same_sets}
 use Rattle.atoms.proofs.Truth.{false_T, T_and, true_T}
 use Rattle.sat.specs.Table.{Within, Apart, Proper}
 use Rattle.sat.specs.Knowledge.{Extends, Grown}
@@ -30,10 +30,10 @@ module _ (P : ℕ → Type 0) where
 
 -- ---- the tests of the code
 
-pub same_set : (a b : AtomSet) (r : Bool) → r ≡ eqb a.bits b.bits → r ≡ true → num a ≡ num b
+pub same_set : (a b : AtomSet) (r : Bool) → r ≡ derived_same a b → r ≡ true → num a ≡ num b
 same_set a b r e t = eqb-true _ _ (sym (same_sets a b) ∙ sym e ∙ t)
 
-pub differ : (p q : Partial) (r : Bool) → r ≡ (eqb p.has.bits q.has.bits && eqb p.lacks.bits q.lacks.bits) → r ≡ false
+pub differ : (p q : Partial) (r : Bool) → r ≡ (derived_same p.has q.has && derived_same p.lacks q.lacks) → r ≡ false
     → (num p.has ≡ num q.has) × (num p.lacks ≡ num q.lacks) → ⊥
 differ p q r e f w =
     false_T (sym e ∙ f) (T_and _ _ (true_T (same_sets p.has q.has ∙ eq-eqb _ _ w.0)) (true_T (same_sets p.lacks q.lacks ∙ eq-eqb _ _ w.1)))

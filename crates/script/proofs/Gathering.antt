@@ -66,6 +66,7 @@ module _ (piece : List ℕ) (end : ℕ) (found : end ≡ index_of line_feed piec
   gathered_all e =
       let whole : take end piece ≡ piece = take_all end piece (omega arith) in
       record {
+        inside = tt;
         further = tt;
         does = λ bytes h. record {
           one = subst OneLine whole no_feed;
@@ -80,6 +81,7 @@ module _ (piece : List ℕ) (end : ℕ) (found : end ≡ index_of line_feed piec
       split_at piece end 0 h
       ∙ ap₂ (λ (b : ℕ) (l : List ℕ). take end piece ++ b ∷ l) (rw found (at_feed piece there)) (sym (e ∙ rw add-one)) in
       record {
+        inside = (end + 1, omega arith, e);
         further = omega (arith, ap length e, length-drop (end + 1) piece);
         does = λ bytes b. record { end = take end piece; one = no_feed; cut = cut; begun = grows bytes b no_feed };
       }

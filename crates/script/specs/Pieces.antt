@@ -1,5 +1,5 @@
 -- The contracts by which a script is read piece by piece: the line that has begun, a step of the gathering, and a line's answer.
-use Rattle.std.specs.Prelude.{Bool, List, ◌∷◌, ◌++◌, ◌≡◌, ℕ, ◌<◌, length, take, Option, None, Some, MatchOption, ⊤}
+use Rattle.std.specs.Prelude.{Bool, List, ◌∷◌, ◌++◌, ◌≡◌, ℕ, ◌<◌, ◌≤◌, length, take, drop, Option, None, Some, MatchOption, ⊤}
 use Rattle.ipl.specs.Lists.{All}
 use Rattle.prover.specs.declared.Session.{Session}
 use Rattle.text.specs.declared.draft.Draft.{Draft}
@@ -47,8 +47,9 @@ abbrev pub GatheredAs : List ℕ → List ℕ → List ℕ → Pending → Optio
 GatheredAs bytes piece buffer p None = GoesOn bytes piece buffer p
 GatheredAs bytes piece buffer p (Some rest) = Ends bytes piece buffer p rest
 
--- A step of the gathering, to the end of a line or of the piece: less of the piece is left.
+-- A step of the gathering, to the end of a line or of the piece: an end of the piece is left, and less than the piece.
 pub record GatheredFrom (piece before : List ℕ) (p : Pending) (after : List ℕ) (q : Pending) (r : Option (List ℕ)) : Type 0 where
+  pub inside : MatchOption r ⊤ (λ rest. (at : ℕ) × (at ≤ length piece) × (rest ≡ drop at piece))
   pub further : MatchOption r ⊤ (λ rest. length rest < length piece)
   pub does : (bytes : List ℕ) → Begun bytes before p → GatheredAs bytes piece after q r
 

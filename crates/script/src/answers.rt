@@ -120,7 +120,9 @@ fn screen(text: &[u8], draft: &mut Draft)
 fn open(s: &mut Session, n: u8, draft: &mut Draft)
     ensures { (any : Session) → Adds (CommandDone any (open_session n)) draft.old draft.new s.new }
 {
-    write_changed(s.open(n), draft);
+    let opening = Session::open(n);
+    *s = opening.session;
+    write_changed(opening.opened, draft);
 }
 
 fn read_text(s: &mut Session, text: &[u8], draft: &mut Draft)

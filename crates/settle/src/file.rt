@@ -21,14 +21,23 @@ fn can_be_cut(file: &mut (impl Seek + OpenFile)) -> bool {
         .is_ok_and(|end| file.set_len(end).is_ok())
 }
 
-// Writes all of the bytes and closes the file. Those of a regular file have then reached their device, and nothing is left that its
-// closing could tell.
-fn fill(mut file: impl Write + OpenFile + Drop, bytes: &[u8]) -> io::Result<()> {
+// Writes all of the bytes. Those of a regular file have then reached their device, and nothing is left that its closing could tell.
+fn put(file: &mut (impl Write + OpenFile), bytes: &[u8]) -> io::Result<()> {
     file.write_all(bytes)?;
     if file.metadata()?.is_file() {
         file.sync_all()?;
     }
     Ok(())
+}
+
+// Writes the bytes to an open file and closes it; a failure is told before.
+fn fill(
+    rt: &impl Eprint,
+    path: &str,
+    mut file: impl Write + OpenFile + Drop,
+    bytes: &[u8],
+) -> Result<(), Told> {
+    put(&mut file, bytes).map_err(|error| streams::tell(rt, path, error))
 }
 
 // A name that no other file is likely to have: the path, a dot and a random number.
@@ -47,39 +56,52 @@ fn name_in<'a>(name: &'a Draft) -> &'a str {
     str::from_utf8(name.written()).unwrap_or("")
 }
 
-// Writes the bytes beside the path and renames that file over it; where this fails, removes it.
-fn replace_by(rt: &impl Files, beside: &str, path: &str, bytes: &[u8]) -> io::Result<()> {
+// Writes the bytes beside the path and renames that file over it; where this fails, removes it. A failure is told before.
+fn replace_by(
+    rt: &(impl Files + Eprint),
+    beside: &str,
+    path: &str,
+    bytes: &[u8],
+) -> Result<(), Told> {
     let file = OpenOptions::new()
         .write(true)
         .create_new(true)
-        .open(rt, beside)?;
-    let saved = fill(file, bytes).and_then(|()| fs::rename(rt, beside, path));
+        .open(rt, beside)
+        .map_err(|error| streams::tell(rt, path, error))?;
+    let saved = fill(rt, path, file, bytes).and_then(|()| {
+        fs::rename(rt, beside, path).map_err(|error| streams::tell(rt, path, error))
+    });
     if saved.is_err() {
         let _ = fs::remove_file(rt, beside);
     }
     saved
 }
 
-fn replace(rt: &(impl Files + RandomSource), path: &str, bytes: &[u8]) -> io::Result<()> {
+fn replace(
+    rt: &(impl Files + Eprint + RandomSource),
+    path: &str,
+    bytes: &[u8],
+) -> Result<(), Told> {
     let mut buffer = [0u8; PATH_MAX];
     let mut name = Draft::new(&mut buffer);
     write_name_beside(rt, path, &mut name);
     replace_by(rt, name_in(&name), path, bytes)
 }
 
-fn write(rt: &(impl Files + RandomSource), path: &str, bytes: &[u8]) -> io::Result<()> {
+fn write(rt: &(impl Files + Eprint + RandomSource), path: &str, bytes: &[u8]) -> Result<(), Told> {
     if is_link(rt, path) {
-        return fill(fs::create(rt, path)?, bytes);
+        let file = fs::create(rt, path).map_err(|error| streams::tell(rt, path, error))?;
+        return fill(rt, path, file, bytes);
     }
     match OpenOptions::new().append(true).open(rt, path) {
         Err(error) if error.kind() == ErrorKind::NotFound => replace(rt, path, bytes),
-        Err(error) => Err(error),
+        Err(error) => Err(streams::tell(rt, path, error)),
         Ok(mut file) => {
             if can_be_cut(&mut file) {
                 drop(file);
                 return replace(rt, path, bytes);
             }
-            fill(file, bytes)
+            fill(rt, path, file, bytes)
         }
     }
 }
@@ -94,5 +116,5 @@ pub fn save(
         let error = Error::new(ErrorKind::InvalidFilename, "it is no UTF-8 text");
         streams::tell(rt, "the name of the file", error)
     })?;
-    write(rt, path, bytes).map_err(|error| streams::tell(rt, path, error))
+    write(rt, path, bytes)
 }

@@ -63,31 +63,37 @@ impl Levels {
     }
 }
 
-// Whether an operand is wanted after a token, and the levels; none where it does not fit. A space changes nothing. No match has more
-// than three kinds of class, of which the compiler would make a table.
+// Whether an operand is wanted after a token, and the levels; none where it does not fit. A space changes nothing. The classes are
+// compared one after the other: of a match on them the compiler would make a table.
 fn step(operand: bool, levels: Levels, class: Class) -> Option<(bool, Levels)>
     requires { MayOpen levels (decode class) }
     ensures { turn_state result ≡ move (state_of operand levels) (decode class) }
 {
+    if class == Class::Blank {
+        return Some((operand, levels));
+    }
     if operand {
+        if class == Class::Not {
+            return Some((true, levels));
+        }
+        if class == Class::Opening {
+            return Some((true, levels.opened()));
+        }
         if matches!(class, Class::Falsum | Class::Letter(_)) {
             return Some((false, levels));
         }
-        return match class {
-            Class::Blank | Class::Not => Some((true, levels)),
-            Class::Opening => Some((true, levels.opened())),
-            _ => None,
-        };
+        return None;
+    }
+    if class == Class::Closing {
+        return Some((false, levels.closed()?));
+    }
+    if class == Class::Equals {
+        return Some((true, levels.equated()?));
     }
     if matches!(class, Class::And | Class::Or | Class::Implies) {
         return Some((true, levels));
     }
-    match class {
-        Class::Blank => Some((false, levels)),
-        Class::Closing => Some((false, levels.closed()?)),
-        Class::Equals => Some((true, levels.equated()?)),
-        _ => None,
-    }
+    None
 }
 
 // How many bytes begin a formula, where the text is none. The reader has judged the depth.

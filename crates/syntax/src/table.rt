@@ -52,6 +52,8 @@ impl Parts {
         Some(row)
     }
 
+    // Not inlined: a part of which a piece is known would be made of constant data.
+    #[inline(never)]
     pub(crate) fn compound(&mut self, c: Connective, left: u8, right: u8) -> Option<u8>
         ensures { Names (with_entry (held self.old) (compound (connective_of c) left right)) self.new result }
     {

@@ -32,6 +32,17 @@ both {A} {B} {d} {e} {f} p q = record {
   follows = λ T h. subst (λ l. Holds l f) (append_assoc T A B) (q.follows (T ++ A) (p.follows T h));
 }
 
+-- In a full draft no byte more stands.
+pub full : (new : List ℕ) (d : Draft) → d.len ≡ length d.text.now → Appends new d d
+full new d all = record {
+  same_reference = refl;
+  size = refl;
+  follows = λ T h. record {
+    fills = omega (arith, all, h.fills, length-append T new);
+    same = h.same ∙ sym (take-append-le d.len T new (omega (arith, all, h.fills)));
+  };
+}
+
 -- As many of the new bytes as there is room for come after those that stand.
 module _ (new text : List ℕ) (end n : ℕ) (few : n ≡ min (length new) (length text - end)) where
   taken : (T : List ℕ) → Begins T text end → take end T ++ take n new ≡ take (end + n) (T ++ new)
@@ -90,7 +101,7 @@ module _ (T text output : List ℕ) (n : ℕ) (b : Begins T text n) (buffer : le
       }
 
   -- The text is as long as the buffer or longer, or the output is too short for it.
-  pub unhanded : (n ≡ length text) ⊎ (length output < n) → Reported T output output 0
+  pub unhanded : (length text ≤ n) ⊎ (length output < n) → Reported T output output 0
   unfolding longest
   unhanded h =
       record {
@@ -100,7 +111,7 @@ module _ (T text output : List ℕ) (n : ℕ) (b : Begins T text n) (buffer : le
         unchanged = λ _. refl;
       }
     where
-      short : length T ≤ room output → (n ≡ length text) ⊎ (length output < n) → ⊥
+      short : length T ≤ room output → (length text ≤ n) ⊎ (length output < n) → ⊥
       short fits (inl k) = omega (arith, b.fills)
       short fits (inr k) = omega (arith, b.fills)
 

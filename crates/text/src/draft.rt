@@ -124,11 +124,6 @@ impl<'a> Draft<'a> {
     pub fn hand_over(&self, output: &mut [u8]) -> usize
         ensures { (T : List ℕ) → Holds T self.now → length self.now.text.now ≡ draft → Reported T output.old output.new result }
     {
-        let n = self.len;
-        if self.is_full() || output.len() < n {
-            return 0;
-        }
-        output[..n].copy_from_slice(self.written());
-        n
+        super::hand_over(self.text, self.len, output)
     }
 }

@@ -1,11 +1,11 @@
--- The draft is handed over.
-use Rattle.std.proofs.Common.{length, ap, ◌∙◌}
-use Rattle.text.proofs.Appending.{begun}
+-- What stands in the draft is handed over.
+use Rattle.std.proofs.Common.{rules}
+use Rattle.text.proofs.Appending.{started}
 use Rattle.report.proofs.Screened.{screen_given}
 use Rattle.report.proofs.screenings.screen.Goals as goal
 
 pub returns : goal.returns
 returns c =
-    let written = c.write.ensures in
-    screen_given _ c.screen.result c.screen.ensures
-    (c.hand_over.ensures _ (begun c.new-draft.ensures.empty written) (written.size ∙ ap length c.new-draft.ensures.same))
+    let empty = c.new-draft.ensures in
+    let stands = started empty.same empty.empty c.write.ensures (search rules) c.len-n.ensures in
+    screen_given _ c.screen.result c.screen.ensures (c.hand_over.ensures _ stands.begins stands.size)
