@@ -5,10 +5,10 @@ use mathlib.Core.Path.{◌≡◌, refl, sym, ap, ap₂, ◌∙◌, subst}
 use Prim.Native.Nat.{ℕ, ◌+◌, ◌<◌, min}
 use native.Mathlib.Omega.{arith}
 use lib.Dec.{eqb}
-use Rattle.std.specs.Prelude.{Some, None}
+use Rattle.std.specs.Prelude.{Option, Some, None}
 use native.Mathlib.Numerals.{add-one}
-use lib.ListN.{length, take, drop, get_or, length-drop}
-use lib.Seq.{take_all, split_at}
+use lib.ListN.{length, take, drop, get_or, length-drop, length-append}
+use lib.Seq.{take_all, split_at, drop-append-add}
 use borrow.Author.Tests.{eqb-true, eqb-false}
 use Rattle.ipl.proofs.Lists.{All_append}
 use Rattle.text.specs.declared.draft.Draft.{Draft}
@@ -16,7 +16,7 @@ use Rattle.text.specs.Output.{Begins, Appends}
 use Rattle.script.specs.Parts.{index_after, index_of}
 use Rattle.script.specs.Words.{line_feed}
 use Rattle.script.specs.Command.{is_blank}
-use Rattle.script.specs.Pieces.{OneLine, Begun, Longer, GatheredFrom}
+use Rattle.script.specs.Pieces.{OneLine, Begun, Longer, GatheredFrom, GatheredWithin}
 use Rattle.script.specs.declared.Pending.{Pending}
 use Rattle.script.proofs.Blank.{blank_append}
 
@@ -62,19 +62,21 @@ module _ (piece : List ℕ) (end : ℕ) (found : end ≡ index_of line_feed piec
   no_feed : OneLine (take end piece)
   no_feed = subst (λ (n : ℕ). OneLine (take n piece)) (sym found) (before_feed piece)
 
-  pub gathered_all : end ≡ length piece → GatheredFrom piece before p after q None
+  pub gathered_all : end ≡ length piece → GatheredWithin piece before p after q None
   gathered_all e =
       let whole : take end piece ≡ piece = take_all end piece (omega arith) in
       record {
         inside = tt;
-        further = tt;
-        does = λ bytes h. record {
-          one = subst OneLine whole no_feed;
-          begun = subst (λ (l : List ℕ). Begun (bytes ++ l) after q) whole (grows bytes h no_feed);
+        step = record {
+          further = tt;
+          does = λ bytes h. record {
+            one = subst OneLine whole no_feed;
+            begun = subst (λ (l : List ℕ). Begun (bytes ++ l) after q) whole (grows bytes h no_feed);
+          };
         };
       }
 
-  pub gathered_line : end < length piece → (rest : List ℕ) → rest ≡ drop (end + 1) piece → GatheredFrom piece before p after q (Some rest)
+  pub gathered_line : end < length piece → (rest : List ℕ) → rest ≡ drop (end + 1) piece → GatheredWithin piece before p after q (Some rest)
   gathered_line h rest e =
       let there : index_of line_feed piece < length piece = omega (arith, found) in
       let cut : piece ≡ take end piece ++ line_feed ∷ rest =
@@ -82,6 +84,17 @@ module _ (piece : List ℕ) (end : ℕ) (found : end ≡ index_of line_feed piec
       ∙ ap₂ (λ (b : ℕ) (l : List ℕ). take end piece ++ b ∷ l) (rw found (at_feed piece there)) (sym (e ∙ rw add-one)) in
       record {
         inside = (end + 1, omega arith, e);
-        further = omega (arith, ap length e, length-drop (end + 1) piece);
-        does = λ bytes b. record { end = take end piece; one = no_feed; cut = cut; begun = grows bytes b no_feed };
+        step = record {
+          further = omega (arith, ap length e, length-drop (end + 1) piece);
+          does = λ bytes b. record { end = take end piece; one = no_feed; cut = cut; begun = grows bytes b no_feed };
+        };
       }
+
+-- Of a line that has begun, every step leaves an end of the piece.
+pub within : {piece before after : List ℕ} {p q : Pending} (bytes : List ℕ) (r : Option (List ℕ)) → Begun bytes before p → GatheredFrom piece before p after q r
+    → GatheredWithin piece before p after q r
+within bytes None b g = record { inside = tt; step = g }
+within {piece} bytes (Some rest) b g =
+    let e = g.does bytes b in
+    let left : drop (length e.end + 1) piece ≡ rest = ap (drop (length e.end + 1)) e.cut ∙ drop-append-add e.end (line_feed ∷ rest) 1 in
+    record { inside = (length e.end + 1, omega (arith, ap length e.cut, length-append e.end (line_feed ∷ rest)), sym left); step = g }

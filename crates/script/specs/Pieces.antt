@@ -47,11 +47,15 @@ abbrev pub GatheredAs : List ℕ → List ℕ → List ℕ → Pending → Optio
 GatheredAs bytes piece buffer p None = GoesOn bytes piece buffer p
 GatheredAs bytes piece buffer p (Some rest) = Ends bytes piece buffer p rest
 
--- A step of the gathering, to the end of a line or of the piece: an end of the piece is left, and less than the piece.
+-- A step of the gathering, to the end of a line or of the piece: less of the piece is left.
 pub record GatheredFrom (piece before : List ℕ) (p : Pending) (after : List ℕ) (q : Pending) (r : Option (List ℕ)) : Type 0 where
-  pub inside : MatchOption r ⊤ (λ rest. (at : ℕ) × (at ≤ length piece) × (rest ≡ drop at piece))
   pub further : MatchOption r ⊤ (λ rest. length rest < length piece)
   pub does : (bytes : List ℕ) → Begun bytes before p → GatheredAs bytes piece after q r
+
+-- Such a step, and what is left is an end of the piece, whatever the buffer held.
+pub record GatheredWithin (piece before : List ℕ) (p : Pending) (after : List ℕ) (q : Pending) (r : Option (List ℕ)) : Type 0 where
+  pub inside : MatchOption r ⊤ (λ rest. (at : ℕ) × (at ≤ length piece) × (rest ≡ drop at piece))
+  pub step : GatheredFrom piece before p after q r
 
 -- A line is answered: the one that has begun, where there is one.
 pub record Answers (s : Session) (number : ℕ) (buffer : List ℕ) (p : Pending) (entry exit : List ℕ) (r : Answer) : Type 0 where

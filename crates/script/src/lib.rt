@@ -5,7 +5,7 @@
 ghost use Rattle.std.specs.Prelude.{◌≡◌, option_copied};
 ghost use Rattle.script.specs.Command.{is_blank};
 ghost use Rattle.script.specs.Transcript.{number_after};
-ghost use Rattle.script.specs.Pieces.{Longer, CallIs, GatheredFrom};
+ghost use Rattle.script.specs.Pieces.{Longer, CallIs, GatheredWithin};
 
 use reading::Call;
 use text::Draft;
@@ -84,7 +84,7 @@ fn kept_call(line: &[u8], blank: bool) -> Call<'_>
 // Goes on in a piece to the end of the line that has begun, and returns what follows it; where no line ends in the piece, all of it
 // joins the line. The buffer of a line has `LINE` bytes.
 pub fn gather<'a>(piece: &'a [u8], line: &mut [u8], pending: &mut Pending) -> Option<&'a [u8]>
-    ensures { GatheredFrom piece.now line.old pending.old line.new pending.new (option_copied result) }
+    ensures { GatheredWithin piece.now line.old pending.old line.new pending.new (option_copied result) }
 {
     let end = bytes::find(piece, b'\n');
     pending.join(&piece[..end], line);

@@ -13,7 +13,7 @@ returns-in_default c =
     record {
       further = λ h. h;
       fits = omega arith;
-      prints = prints_on (take l.held l.output) c.args.piece.now _ l.invariant.prints c.gather.ensures (ap option_copied c.in_default.is);
+      prints = prints_on (take l.held l.output) c.args.piece.now _ l.invariant.prints c.gather.ensures.step (ap option_copied c.in_default.is);
     }
 
 pub overflow_add-held : goal.overflow_add-held
@@ -40,9 +40,9 @@ returns-then-not-can_wait c =
     let fits : l.held ≤ length l.output = omega arith in
     let size = held_length l.output l.held _ fits answered.auto.output in
     record {
-      further = λ h. omega (arith, less_left c.gather.ensures next);
+      further = λ h. omega (arith, less_left c.gather.ensures.step next);
       fits = held_inside l.output l.held _ answered.ensures fits _ answered.auto.output size;
-      prints = prints_answered (take l.held l.output) c.args.piece.now _ l.invariant.prints c.gather.ensures _ next
+      prints = prints_answered (take l.held l.output) c.args.piece.now _ l.invariant.prints c.gather.ensures.step _ next
           (omega arith) answered.ensures c.number_after-script.ensures _
           (held_behind l.output l.held _ answered.ensures fits (post_of l.held (length l.output - l.held) l.output));
     }
@@ -55,9 +55,9 @@ loop-line-preserved c =
     let fits : l.held ≤ length l.output = omega arith in
     let size = held_length l.output l.held _ fits answered.auto.output in
     record {
-      since = omega (arith, less_left c.gather.ensures next);
+      since = omega (arith, less_left c.gather.ensures.step next);
       room = omega (arith, c.can_wait.ensures c.if-not-can_wait.false, held_inside l.output l.held _ answered.ensures fits _ answered.auto.output size);
-      prints = prints_answered (take l.held l.output) c.args.piece.now _ l.invariant.prints c.gather.ensures _ next
+      prints = prints_answered (take l.held l.output) c.args.piece.now _ l.invariant.prints c.gather.ensures.step _ next
           (omega arith) answered.ensures c.number_after-script.ensures _
           (held_behind l.output l.held _ answered.ensures fits (post_of l.held (length l.output - l.held) l.output));
     }
