@@ -1,10 +1,9 @@
 -- Each line gathered leaves less of the piece; its answer stands behind those held.
-use Rattle.std.proofs.Common.{◌-◌, ◌≤◌, sym, ◌∙◌, arith, ap, length, take}
+use Rattle.std.proofs.Common.{sym, ◌∙◌, arith, ap, take}
 use Rattle.std.specs.Prelude.{option_copied}
 use Rattle.std.proofs.lemmas.Bool.Decides.{Decides-eqb}
-use borrow.Rule.Slice.PartMut.{post_of}
-use Rattle.script.proofs.Leading.{prints_on, prints_answered, less_left}
-use Rattle.session.proofs.Holding.{held_inside, held_behind, held_length}
+use Rattle.script.proofs.Leading.{prints_on, less_left}
+use Rattle.session.proofs.Holding.{held_inside, prints_held}
 use Rattle.session.proofs.answer_lines.Goals as goal
 
 pub returns-in_default : goal.returns-in_default
@@ -18,33 +17,24 @@ returns-in_default c =
 
 pub overflow_add-held : goal.overflow_add-held
 overflow_add-held c =
-    let l = c.loop-line in
     let answered = c.answer_line-held in
-    let fits : l.held ≤ length l.output = omega arith in
-    let size = held_length l.output l.held _ fits answered.auto.output in
-    omega (arith, held_inside l.output l.held _ answered.ensures fits _ answered.auto.output size)
+    omega (arith, held_inside c.loop-line.output c.loop-line.held _ answered.ensures (omega arith) answered.auto.output)
 
 pub overflow_sub-output : goal.overflow_sub-output
 overflow_sub-output c =
-    let l = c.loop-line in
     let answered = c.answer_line-held in
-    let fits : l.held ≤ length l.output = omega arith in
-    let size = held_length l.output l.held _ fits answered.auto.output in
-    omega (arith, held_inside l.output l.held _ answered.ensures fits _ answered.auto.output size)
+    omega (arith, held_inside c.loop-line.output c.loop-line.held _ answered.ensures (omega arith) answered.auto.output)
 
 pub returns-then-not-can_wait : goal.returns-then-not-can_wait
 returns-then-not-can_wait c =
     let l = c.loop-line in
     let next = ap option_copied c.in-Some.is in
     let answered = c.answer_line-held in
-    let fits : l.held ≤ length l.output = omega arith in
-    let size = held_length l.output l.held _ fits answered.auto.output in
     record {
       further = λ h. omega (arith, less_left c.gather.ensures.step next);
-      fits = held_inside l.output l.held _ answered.ensures fits _ answered.auto.output size;
-      prints = prints_answered (take l.held l.output) c.args.piece.now _ l.invariant.prints c.gather.ensures.step _ next
-          (omega arith) answered.ensures c.number_after-script.ensures _
-          (held_behind l.output l.held _ answered.ensures fits (post_of l.held (length l.output - l.held) l.output));
+      fits = held_inside l.output l.held _ answered.ensures (omega arith) answered.auto.output;
+      prints = prints_held l.output l.held _ answered.ensures (omega arith) c.args.piece.now l.invariant.prints
+          c.gather.ensures.step next (omega arith) c.number_after-script.ensures;
     }
 
 pub loop-line-preserved : goal.loop-line-preserved
@@ -52,14 +42,11 @@ loop-line-preserved c =
     let l = c.loop-line in
     let next = ap option_copied c.in-Some.is in
     let answered = c.answer_line-held in
-    let fits : l.held ≤ length l.output = omega arith in
-    let size = held_length l.output l.held _ fits answered.auto.output in
     record {
       since = omega (arith, less_left c.gather.ensures.step next);
-      room = omega (arith, c.can_wait.ensures c.if-not-can_wait.false, held_inside l.output l.held _ answered.ensures fits _ answered.auto.output size);
-      prints = prints_answered (take l.held l.output) c.args.piece.now _ l.invariant.prints c.gather.ensures.step _ next
-          (omega arith) answered.ensures c.number_after-script.ensures _
-          (held_behind l.output l.held _ answered.ensures fits (post_of l.held (length l.output - l.held) l.output));
+      room = omega (arith, c.can_wait.ensures c.if-not-can_wait.false, held_inside l.output l.held _ answered.ensures (omega arith) answered.auto.output);
+      prints = prints_held l.output l.held _ answered.ensures (omega arith) c.args.piece.now l.invariant.prints
+          c.gather.ensures.step next (omega arith) c.number_after-script.ensures;
     }
 
 pub returns : goal.returns
